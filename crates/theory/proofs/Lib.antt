@@ -1,0 +1,12 @@
+pub mod Alphabets
+pub mod Words
+pub mod Counts
+pub mod Reach
+pub mod Memory
+pub mod Calls
+pub mod Trips
+pub mod Carriers
+pub mod Groups
+pub mod Repetition
+pub mod Parity
+pub mod Worked

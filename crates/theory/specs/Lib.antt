@@ -1,0 +1,12 @@
+pub mod Alphabets
+pub mod Words
+pub mod Meanings
+pub mod Pairs
+pub mod Reach
+pub mod Memory
+pub mod Calls
+pub mod Trips
+pub mod Repetition
+pub mod Parity
+pub mod Levels
+pub mod Cases
