@@ -6,8 +6,8 @@ ghost use Rattle.codes.specs.Refusals.{outcome};
 ghost use Rattle.theory.specs.Pairs.{AtDistance};
 ghost use Rattle.theory.specs.Calls.{sent, mended, readBack, shown};
 ghost use Rattle.theory.specs.Meanings.{Meaning, Keeps};
-use crate::alphabets::Alphabet;
 use crate::refusals::Refusal;
+use alphabets::Alphabet;
 
 /// A code over an alphabet. Its meaning is its length, dimension, distance and working length, its codewords and its
 /// carriers; `keeps` is all that a meaning has to keep. Send, mend and read work in the first `working_length` bytes

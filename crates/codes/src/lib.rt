@@ -1,5 +1,4 @@
-// The interface of every code, and what codes share: alphabets, refusals, moving bytes in lent memory, counting tolls.
-pub mod alphabets;
+// The interface of every code, and what codes share: refusals, moving bytes in lent memory, counting damage, calls in a row.
 pub mod code;
 pub mod memory;
 pub mod refusals;

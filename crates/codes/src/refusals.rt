@@ -1,7 +1,9 @@
-// Why a call or a making is refused. specs/Refusals.antt has the number of each.
+// Why a call or a making is refused. specs/Refusals.antt has the number and the values of each.
+ghost use mathlib.Core.Path.{_≡_};
+ghost use Rattle.codes.specs.Refusals.{refusalNumber, makingNumber};
 
 /// What send, mend, read and show may answer in place of doing what they are asked.
-#[derive(Clone, Copy, PartialEq, Eq, Debug)]
+#[derive(Clone, Copy)]
 pub enum Refusal {
     /// The memory has fewer bytes than the call works in.
     ShortMemory,
@@ -13,9 +15,34 @@ pub enum Refusal {
     NotAWord,
 }
 
+impl Refusal {
+    /// The number by which it is known.
+    pub fn number(&self) -> u8
+        ensures { λ r. ⌜ r ≡ refusalNumber (now (self .entry)) ⌝ }
+    {
+        match self {
+            Refusal::ShortMemory => 1,
+            Refusal::MarkInMessage(_) => 2,
+            Refusal::BeyondReach => 3,
+            Refusal::NotAWord => 4,
+        }
+    }
+}
+
 /// Why no code is made.
-#[derive(Clone, Copy, PartialEq, Eq, Debug)]
+#[derive(Clone, Copy)]
 pub enum MakingRefusal {
     /// The length is outside what the code allows.
     OutOfRange,
+}
+
+impl MakingRefusal {
+    /// The number by which it is known.
+    pub fn number(&self) -> u8
+        ensures { λ r. ⌜ r ≡ makingNumber (now (self .entry)) ⌝ }
+    {
+        match self {
+            MakingRefusal::OutOfRange => 11,
+        }
+    }
 }

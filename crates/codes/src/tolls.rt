@@ -5,10 +5,10 @@ ghost use lib.Dec.{ltb};
 ghost use lib.ListN.{length, take};
 ghost use Rattle.theory.specs.Calls.{firstMark};
 ghost use Rattle.theory.specs.Words.{wrong, marked};
-use crate::alphabets::Alphabet;
+use alphabets::Alphabet;
 
 /// How many places are wrong (errors) and how many are marked (erasures).
-#[derive(Clone, Copy, PartialEq, Eq, Debug)]
+#[derive(Clone, Copy)]
 pub struct Damage {
     pub wrong: usize,
     pub marked: usize,

@@ -8,7 +8,7 @@ ghost use Rattle.theory.specs.Pairs.{AtDistance};
 ghost use Rattle.theory.specs.Calls.{sent, mended, readBack, shown};
 ghost use Rattle.theory.specs.Parity.{parity, parityMaking};
 ghost use Rattle.parity.specs.Sums.{unmarkedTotal};
-use codes::alphabets::Alphabet;
+use alphabets::Alphabet;
 use codes::code::Code;
 use codes::code::Showing;
 use codes::memory::clear;

@@ -9,7 +9,7 @@ ghost use Rattle.theory.specs.Calls.{sent, mended, readBack, shown};
 ghost use Rattle.theory.specs.Repetition.{repetition, repetitionMaking};
 ghost use Rattle.theory.specs.Words.{wrong, marked};
 ghost use Rattle.repetition.specs.Symbol.{TellsSymbol};
-use codes::alphabets::Alphabet;
+use alphabets::Alphabet;
 use codes::code::Code;
 use codes::code::Showing;
 use codes::memory::clear;

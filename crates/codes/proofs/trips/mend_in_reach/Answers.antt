@@ -8,5 +8,5 @@ returns g c =
     record {
       answer = λ fit. c .mend .ensures fit;
       mends-what-is-in-reach = λ fit.
-          mends-what-is-in-reach (g .Symbols·Alphabet .symbols) (g .C·Code .meaning (c .args .code .now)) (g .C·Code·met .keeps (c .args .code .now) fit) (c .args .memory .now) (outcome (c .mend .result)) (c .mend .last .memory) (sym (c .mend .ensures fit));
+          mends-what-is-in-reach (g .Symbols·Alphabet .symbols) (g .C·Code .meaning (c .args .code .now)) (g .C·Code·met .keeps (c .args .code .now) fit) (c .args .received .now) (outcome (c .mend .result)) (c .mend .last .memory) (sym (c .mend .ensures fit));
     }

@@ -1,0 +1,21 @@
+// Examples of every public call as tests. The memory that a call is lent is dirty throughout.
+ghost use mathlib.Core.Path.{_≡_};
+ghost use Rattle.trials.specs.Answers.{numberOf};
+use codes::refusals::Refusal;
+
+/// The number of a refusal, or 0 for an accepted call.
+pub fn number(answer: Result<(), Refusal>) -> u8
+    ensures { λ r. ⌜ r ≡ numberOf answer ⌝ }
+{
+    match answer {
+        Ok(()) => 0,
+        Err(refusal) => refusal.number(),
+    }
+}
+
+#[cfg(test)]
+mod alphabet_examples;
+#[cfg(test)]
+mod code_examples;
+#[cfg(test)]
+mod shared_examples;
