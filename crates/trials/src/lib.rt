@@ -13,9 +13,6 @@ pub fn number(answer: Result<(), Refusal>) -> u8
     }
 }
 
-#[cfg(test)]
 mod alphabet_examples;
-#[cfg(test)]
 mod code_examples;
-#[cfg(test)]
 mod shared_examples;
