@@ -36,6 +36,8 @@ use std::alloc::AllocError;
 use std::alloc::Global;
 use std::io;
 use std::io::Write;
+use theory::longest_working_length;
+use theory::shown_messages;
 
 /// Carries out a whole script.
 pub fn run_script(rt: &LibcRuntime, script: &[u8]) -> io::Result<()> {
@@ -78,8 +80,11 @@ fn serve_model<M: Model + Drop>(
     }
 }
 
-/// Answers the line that chose a model.
+/// Answers the line that chose a model. The two calls stand for what its answers rest on: whatever pile a model is, it
+/// keeps its meaning, and the pair that it shows is at its distance.
 fn print_model<C: Code>(rt: &LibcRuntime, name: Name, code: &C) -> io::Result<()> {
+    let _longest = longest_working_length();
+    let _shown = shown_messages();
     let mut answer = Vec::new(rt.alloc());
     write!(answer, "{name}: ")?;
     write_numbers(&mut answer, code)?;

@@ -109,7 +109,7 @@ module _ (A : Arithmetic) (laws : Lawful A) where
     pub parity-shows : AtDistance A (parity A n) (replicate (n - 1) 0) (1 ∷ replicate (n - 2) 0)
     parity-shows =
         let zeros = replicate {A = ℕ} (n - 1) 0 in
-        let ones = 1 ∷ replicate (n - 2) 0 in
+        let ones : List ℕ = 1 ∷ replicate (n - 2) 0 in
         let first : zeros ≡ 0 ∷ replicate (n - 2) 0 = ap (λ (k : ℕ). replicate k 0) less-one in
         let hs : Symbols (A .q) (n - 1) zeros = record { long = length-replicate (n - 1) 0; each = all-replicate (λ x. x < A .q) (n - 1) 0 (zero-symbol A laws) } in
         let ht : Symbols (A .q) (n - 1) ones =

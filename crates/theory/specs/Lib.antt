@@ -8,5 +8,10 @@ pub mod Calls
 pub mod Trips
 pub mod Repetition
 pub mod Parity
+pub mod Hamming
+pub mod Hexacode
+pub mod Joins
+pub mod Piles
+pub mod NamedPiles
 pub mod Levels
 pub mod Cases

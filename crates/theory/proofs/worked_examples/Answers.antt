@@ -3,4 +3,4 @@ use Rattle.theory.proofs.Worked.{worked-examples-hold}
 use Rattle.theory.proofs.worked_examples.Needs as need
 
 pub returns : need.returns
-returns c = (refl, worked-examples-hold)
+returns c = record { value = refl; worked-examples-hold = worked-examples-hold }
