@@ -5,6 +5,8 @@ use codes::code::Code;
 use codes::code::Showing;
 use codes::refusals::MakingRefusal;
 use codes::refusals::Refusal;
+use hamming::Hamming;
+use hexacode::Hexacode;
 use parity::Parity;
 use repetition::Repetition;
 use std::fmt;
@@ -14,15 +16,24 @@ use std::fmt;
 pub enum Name {
     Rep5Three,
     Parity3Three,
+    Hamming,
+    Hexacode,
 }
 
 impl Name {
-    const ALL: [Name; 2] = [Name::Rep5Three, Name::Parity3Three];
+    const ALL: [Name; 4] = [
+        Name::Rep5Three,
+        Name::Parity3Three,
+        Name::Hamming,
+        Name::Hexacode,
+    ];
 
     fn as_str(&self) -> &'static str {
         match self {
             Name::Rep5Three => "rep5-three",
             Name::Parity3Three => "parity3-three",
+            Name::Hamming => "hamming",
+            Name::Hexacode => "hexacode",
         }
     }
 
@@ -90,4 +101,12 @@ pub fn rep5_three() -> Result<WithPair<Repetition<Three>>, MakingRefusal> {
 
 pub fn parity3_three() -> Result<WithPair<Parity<Three>>, MakingRefusal> {
     Ok(WithPair(Parity::new(3)?))
+}
+
+pub fn hamming_model() -> Result<WithPair<Hamming>, MakingRefusal> {
+    Ok(WithPair(Hamming))
+}
+
+pub fn hexacode_model() -> Result<WithPair<Hexacode>, MakingRefusal> {
+    Ok(WithPair(Hexacode))
 }

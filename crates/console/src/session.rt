@@ -14,6 +14,8 @@ use crate::model::Model;
 use crate::model::Name;
 use crate::model::NameDisplay;
 use crate::model::WithPairModel;
+use crate::model::hamming_model;
+use crate::model::hexacode_model;
 use crate::model::parity3_three;
 use crate::model::rep5_three;
 use crate::outcome::Outcome;
@@ -25,9 +27,15 @@ use crate::text::List;
 use crate::text::ListDisplay;
 use crate::text::Pieces;
 use crate::text::PiecesIterator;
+use alphabets::FourAlphabet;
 use alphabets::ThreeAlphabet;
+use alphabets::TwoAlphabet;
 use codes::code::Code;
 use codes::refusals::MakingRefusal;
+use hamming::HammingCode;
+use hamming::HammingShowing;
+use hexacode::HexacodeCode;
+use hexacode::HexacodeShowing;
 use parity::ParityCode;
 use parity::ParityShowing;
 use repetition::RepetitionCode;
@@ -56,6 +64,8 @@ fn serve_named(rt: &LibcRuntime, lines: &mut Pieces, name: Name) -> io::Result<O
     match name {
         Name::Rep5Three => serve_model(rt, lines, name, rep5_three()),
         Name::Parity3Three => serve_model(rt, lines, name, parity3_three()),
+        Name::Hamming => serve_model(rt, lines, name, hamming_model()),
+        Name::Hexacode => serve_model(rt, lines, name, hexacode_model()),
     }
 }
 

@@ -5,14 +5,14 @@ use Prim.Native.Nat.{ℕ}
 use native.Mathlib.Omega.{arith}
 use lib.Dec.{lit≤}
 use Rattle.theory.specs.Alphabets.{four}
-use Rattle.theory.specs.Hexacode.{quadratic, hexacode}
+use Rattle.theory.specs.Hexacode.{hexacodeChecks, hexacode}
 use Rattle.theory.specs.Meanings.{Keeps}
 use Rattle.theory.specs.Pairs.{AtDistance}
 use Rattle.theory.proofs.Systematic.{systematic-keeps}
 
 -- the test is of 64 words, 4,096 pairs
 pub hexacode-keeps : Keeps four hexacode
-hexacode-keeps = systematic-keeps four 6 3 4 6 (λ s. quadratic s 1 ∷ quadratic s 2 ∷ quadratic s 3 ∷ []) refl (lit≤ tt) (lit≤ tt) (lit≤ tt) (lit≤ tt) (lit≤ tt)
+hexacode-keeps = systematic-keeps four 6 3 4 6 hexacodeChecks refl (lit≤ tt) (lit≤ tt) (lit≤ tt) (lit≤ tt) (lit≤ tt)
 
 -- it shows all zeros, and a 1 in the first place
 pub hexacode-shows : AtDistance four hexacode (0 ∷ 0 ∷ 0 ∷ []) (1 ∷ 0 ∷ 0 ∷ [])

@@ -17,6 +17,8 @@ pub mod Puncture
 pub mod Shorten
 pub mod Piles
 pub mod Systematic
+pub mod Search
+pub mod SystematicCalls
 pub mod Hamming
 pub mod Hexacode
 pub mod Reaches

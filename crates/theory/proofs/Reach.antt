@@ -10,6 +10,7 @@ use lib.Dec.{ltb, eqb}
 use lib.ListN.{length, take, drop, getD}
 use Rattle.std.specs.Iters.{counting}
 use Rattle.std.specs.Joined.{joined}
+use Rattle.std.specs.Options.{mapped}
 use Rattle.std.specs.shelf.Lists.{All}
 use Rattle.std.specs.declared.option.Option.{Option}
 use Rattle.std.specs.declared.option.Option.the-variants.{Some, None}
@@ -17,7 +18,7 @@ use Rattle.std.proofs.shelf.Elements.{all-append, all-map, all-getD, all-weaker
 use Rattle.std.proofs.shelf.Tests.{ltb-true, lt-ltb, both-ways, cases-lt}
 use Rattle.theory.specs.Alphabets.{Arithmetic}
 use Rattle.theory.specs.Meanings.{Meaning, Keeps}
-use Rattle.theory.specs.Reach.{InReach, messages, first, messageInReach, same, messageOfWord}
+use Rattle.theory.specs.Reach.{InReach, messages, first, messageInReach, wordInReach, same, messageOfWord}
 use Rattle.theory.specs.Words.{Symbols, differ, toll}
 use Rattle.theory.proofs.Words.{differ-le-tolls, differ-self, toll-self, cases-same, same-true, same-self}
 
@@ -25,7 +26,7 @@ all-joined : {X Y : Type 0} (P : Y → Type 0) (f : X → List Y) (xs : List X) 
 all-joined P f [] h = tt
 all-joined P f (x ∷ xs) h = all-append P (f x) (joined f xs) (h .0) (all-joined P f xs (h .1))
 
-all-counting : (P : ℕ → Type 0) (a n : ℕ) → ((i : ℕ) → a ≤ i → i < a + n → P i) → All P (counting a n)
+pub all-counting : (P : ℕ → Type 0) (a n : ℕ) → ((i : ℕ) → a ≤ i → i < a + n → P i) → All P (counting a n)
 all-counting P a zero h = tt
 all-counting P a (suc n) h = (h a (omega arith) (omega arith), all-counting P (a + 1) n (λ i l m. h i (omega arith) (omega arith)))
 
@@ -146,3 +147,14 @@ module _ (A : Arithmetic) (m : Meaning) (keeps : Keeps A m) where
   pub own-word-in-reach : (s : List ℕ) → Symbols (A .q) (m .k) s → InReach A m (m .word s) s
   own-word-in-reach s h =
       record { message = h; near = omega (arith, keeps .some-distance, toll-self (A .q) (m .word s) (keeps .words s h .each)) }
+
+-- the word in reach: of a message in reach, or none where none is
+pub word-in-reach : (A : Arithmetic) (m : Meaning) → Keeps A m → (rs s : List ℕ) → length rs ≡ m .n → InReach A m rs s → wordInReach A m rs ≡ Some (m .word s)
+word-in-reach A m keeps rs s e h = ap (mapped (m .word)) (in-reach-found A m keeps rs s e h)
+
+pub no-word-in-reach : (A : Arithmetic) (m : Meaning) (rs : List ℕ) → ((s : List ℕ) → InReach A m rs s → ⊥) → wordInReach A m rs ≡ None
+no-word-in-reach A m rs none = go (messageInReach A m rs) refl
+  where
+    go : (o : Option (List ℕ)) → messageInReach A m rs ≡ o → wordInReach A m rs ≡ None
+    go None e = ap (mapped (m .word)) e
+    go (Some s) e = absurd (none s (found-in-reach A m rs s e))

@@ -14,7 +14,10 @@ abbrev pub quadratic : List ℕ → ℕ → ℕ
 quadratic s y =
     bitXor (bitXor (times4 (getD s 0 0) (times4 y y)) (times4 (getD s 1 0) y)) (getD s 2 0)
 
+abbrev pub hexacodeChecks : List ℕ → List ℕ
+hexacodeChecks s = quadratic s 1 ∷ quadratic s 2 ∷ quadratic s 3 ∷ []
+
 -- the word is a, b, c, f(1), f(2), f(3)
 abbrev pub hexacode : Meaning
 hexacode =
-    record { n = 6; k = 3; d = 4; w = 6; word = λ s. s ++ (quadratic s 1 ∷ quadratic s 2 ∷ quadratic s 3 ∷ []); carrier = λ i. cond (ltb i 3) (Some i) None }
+    record { n = 6; k = 3; d = 4; w = 6; word = λ s. s ++ hexacodeChecks s; carrier = λ i. cond (ltb i 3) (Some i) None }

@@ -6,6 +6,7 @@ use Prim.Native.Nat.{ℕ, zero, suc, _<_}
 use lib.Dec.{ltb, eqb}
 use Rattle.std.specs.Iters.{counting}
 use Rattle.std.specs.Joined.{joined}
+use Rattle.std.specs.Options.{mapped}
 use Rattle.std.specs.declared.option.Option.{Option}
 use Rattle.std.specs.declared.option.Option.the-variants.{Some, None}
 use Rattle.theory.specs.Alphabets.{Arithmetic}
@@ -30,6 +31,10 @@ first test (x ∷ xs) = cond (test x) (Some x) (first test xs)
 -- the message in reach, if there is one
 unfoldable pub messageInReach : Arithmetic → Meaning → List ℕ → Option (List ℕ)
 messageInReach A m received = first (λ s. ltb (toll (A .q) (m .word s) received) (m .d)) (messages (A .q) (m .k))
+
+-- its word
+abbrev pub wordInReach : Arithmetic → Meaning → List ℕ → Option (List ℕ)
+wordInReach A m received = mapped (m .word) (messageInReach A m received)
 
 abbrev pub same : List ℕ → List ℕ → Bool
 same [] [] = true

@@ -15,4 +15,5 @@ pub fn number(answer: Result<(), Refusal>) -> u8
 
 mod alphabet_examples;
 mod code_examples;
+mod field_examples;
 mod shared_examples;
