@@ -32,6 +32,8 @@ impl Refusal {
 /// Why no code is made.
 #[derive(Clone, Copy)]
 pub enum MakingRefusal {
+    /// The working length would pass what any code may have.
+    WorkingTooLong,
     /// The length is outside what the code allows.
     OutOfRange,
 }
@@ -42,6 +44,7 @@ impl MakingRefusal {
         ensures { λ r. ⌜ r ≡ makingNumber (now (self .entry)) ⌝ }
     {
         match self {
+            MakingRefusal::WorkingTooLong => 6,
             MakingRefusal::OutOfRange => 11,
         }
     }

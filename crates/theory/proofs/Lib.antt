@@ -3,6 +3,8 @@ pub mod Words
 pub mod Counts
 pub mod Reach
 pub mod Memory
+pub mod Overs
+pub mod Parts
 pub mod Calls
 pub mod Trips
 pub mod Carriers

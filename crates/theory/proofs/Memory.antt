@@ -43,9 +43,6 @@ pub paste-over : (a k : ℕ) (xs ys : List ℕ) → k ≤ length ys → paste xs
 paste-over a k xs ys h =
     append-assoc (take a xs) (take k ys) (drop (a + k) xs) ∙ ap (λ (m : ℕ). take a xs ++ (take k ys ++ drop (a + m) xs)) (sym (length-take-le k ys h))
 
-pub length-over : (xs : List ℕ) (a : ℕ) (ys : List ℕ) → a + length ys ≤ length xs → length (over xs a ys) ≡ length xs
-length-over xs a ys h = simp (length-append, length-take, length-drop) (omega arith)
-
 -- the three ways of writing into lent memory, where the ranges are there and where one is not
 module _ (xs : List ℕ) (from count to : ℕ) where
   pub moved-there : leb (from + count) (length xs) ≡ true → leb (to + count) (length xs) ≡ true → moved xs from count to ≡ over xs to (take count (drop from xs))

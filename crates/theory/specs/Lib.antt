@@ -5,6 +5,7 @@ pub mod Pairs
 pub mod Reach
 pub mod Memory
 pub mod Calls
+pub mod Parts
 pub mod Trips
 pub mod Repetition
 pub mod Parity

@@ -9,6 +9,10 @@ use lib.ListN.{length, take, drop, replicate}
 abbrev pub over : List ℕ → ℕ → List ℕ → List ℕ
 over xs a ys = take a xs ++ (ys ++ drop (a + length ys) xs)
 
+-- k bytes from place a on
+abbrev pub part : List ℕ → ℕ → ℕ → List ℕ
+part xs a k = take k (drop a xs)
+
 -- the result in front, zeros behind it up to place w, and from there on what was there before
 abbrev pub settled : ℕ → List ℕ → List ℕ → List ℕ
 settled w result xs = result ++ (replicate (w - length result) 0 ++ drop w xs)
@@ -26,3 +30,9 @@ cleared xs from count = cond (leb (from + count) (length xs)) (over xs from (rep
 unfoldable pub copied : List ℕ → ℕ → List ℕ → ℕ → ℕ → List ℕ
 copied xs to ys from count =
     cond (leb (from + count) (length ys) && leb (to + count) (length xs)) (over xs to (take count (drop from ys))) xs
+
+-- a bytes from place `left` on and b bytes from place `right` on, one after the other in front, and zeros behind them up to
+-- place `end`; unchanged where they would pass it
+unfoldable pub gathered : List ℕ → ℕ → ℕ → ℕ → ℕ → ℕ → List ℕ
+gathered xs left a right b end =
+    cond (leb (a + b) end) (cleared (moved (moved xs left a 0) right b a) (a + b) (end - (a + b))) xs
