@@ -4,11 +4,14 @@ use mathlib.Core.List.{List, [], _∷_, _++_, append-assoc}
 use Prim.Native.Nat.{ℕ, min, _+_, _-_, _<_, _≤_}
 use native.Mathlib.Omega.{arith}
 use lib.ListN.{length, take, drop, replicate, length-append, length-take, length-drop}
-use Rattle.std.proofs.shelf.Lists.{take-at, drop-at, drop-drop, length-take-le, take-append-le, take-take, drop-take}
+use Rattle.std.proofs.shelf.Lists.{take-at, drop-at, drop-drop, drop-all, append-nil, length-take-le, take-append-le, take-take, drop-take}
 use lib.Dec.{leb}
 use Rattle.std.proofs.shelf.Tests.{le-leb, cond-true}
 use Rattle.theory.specs.Memory.{over, part, settled, cleared, moved, gathered}
 use Rattle.theory.proofs.Memory.{moved-there, cleared-there, settled-over}
+
+pub length-part : (xs : List ℕ) (a k : ℕ) → a + k ≤ length xs → length (part xs a k) ≡ k
+length-part xs a k h = simp (length-take, length-drop) (omega arith)
 
 module _ (xs : List ℕ) (a : ℕ) (ys : List ℕ) (fits : a + length ys ≤ length xs) where
   pub length-over : length (over xs a ys) ≡ length xs
@@ -107,3 +110,14 @@ gathered-is xs left a right b end left-in right-in apart both room =
     step =
         moved-there (over xs 0 (part xs left a)) right b a (le-leb (right + b) (length (over xs 0 (part xs left a))) (omega (arith, same-length))) (le-leb (a + b) (length (over xs 0 (part xs left a))) (omega (arith, same-length)))
         ∙ ap (over (over xs 0 (part xs left a)) a) (part-above xs 0 (part xs left a) first-fits right b (omega (arith, la)))
+
+-- only the longer, later one is left of two writes at one place
+pub over-again : (xs : List ℕ) (a : ℕ) (ys zs : List ℕ) → a + length zs ≤ length xs → length ys ≤ length zs → over (over xs a ys) a zs ≡ over xs a zs
+over-again xs a ys zs fits longer =
+    let inside : a + length ys ≤ length xs = omega arith in
+    ap₂ (λ (f r : List ℕ). f ++ (zs ++ r)) (take-over-below xs a ys inside a (omega arith)) (drop-over-above xs a ys inside (a + length zs) (omega arith))
+
+-- a result in a working part that it is handed whole
+pub settled-part : (w n : ℕ) (result xs : List ℕ) → length xs ≡ w → length result ≡ n → settled w result xs ≡ result ++ replicate (w - n) 0
+settled-part w n result xs e f =
+    ap₂ (λ (k : ℕ) (r : List ℕ). result ++ (replicate (w - k) 0 ++ r)) f (drop-all w xs (omega arith)) ∙ ap (λ (r : List ℕ). result ++ r) (append-nil (replicate (w - n) 0))
