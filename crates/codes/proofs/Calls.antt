@@ -6,13 +6,8 @@ use Rattle.std.specs.declared.result.Result.{Result}
 use Rattle.std.specs.declared.result.Result.the-variants.{Ok, Err}
 use Rattle.codes.specs.declared.refusals.Refusal.{Refusal}
 use Rattle.codes.specs.Refusals.{refusalNumber, refusalValues, outcome}
-use Rattle.theory.specs.Calls.{Outcome, accepted, refused}
-
-abbrev Answer : Type 0
-Answer = Outcome × List ℕ
-
-abbrev paired : Outcome → List ℕ → Answer
-paired o ys = (o, ys)
+use Rattle.theory.specs.Calls.{Outcome, Answer, accepted, refused}
+use Rattle.theory.proofs.Calls.{paired}
 
 module _ {T : Type 0} where
   -- the first call is refused, and that is what both come to

@@ -16,7 +16,7 @@ use Rattle.theory.specs.Memory.{over, settled}
 use Rattle.theory.specs.Parity.{total, parity}
 use Rattle.theory.specs.Reach.{InReach}
 use Rattle.theory.specs.Words.{Symbols, wrong, marked, toll}
-use Rattle.theory.proofs.Calls.{sent-by, sent-message, mended-reach, mended-none, read-word, read-none, firstMark-within, symbols-from-no-mark}
+use Rattle.theory.proofs.Calls.{paired, sent-by, sent-message, mended-reach, mended-none, read-word, read-none, firstMark-within, symbols-from-no-mark}
 use Rattle.theory.proofs.Counts.{symbols-from-unmarked}
 use Rattle.theory.proofs.Groups.{minus-symbol, neg-add}
 use Rattle.theory.proofs.Memory.{front-is, settled-full, settled-found, settled-over}
@@ -24,9 +24,6 @@ use Rattle.theory.proofs.Parity.{parity-keeps, word-total, word-of-front}
 use Rattle.theory.proofs.Words.{same-from-no-toll, toll-self}
 use Rattle.parity.specs.Sums.{unmarkedTotal}
 use Rattle.parity.proofs.Sums.{unmarked-closed, unmarked-symbols, filled, some-mark}
-
-abbrev paired : Outcome → List ℕ → Outcome × List ℕ
-paired o ys = (o, ys)
 
 module _ (A : Arithmetic) (laws : Lawful A) (n : ℕ) (some : 2 ≤ n) (few : n ≤ 64) (xs : List ℕ) (room : n ≤ length xs) where
   keeps : Keeps A (parity A n)

@@ -17,16 +17,13 @@ use Rattle.theory.specs.Memory.{over, settled, cleared}
 use Rattle.theory.specs.Reach.{InReach}
 use Rattle.theory.specs.Repetition.{repetition}
 use Rattle.theory.specs.Words.{Symbols, marked, toll}
-use Rattle.theory.proofs.Calls.{sent-by, sent-message, mended-reach, mended-none, read-word, read-none, firstMark-at}
+use Rattle.theory.proofs.Calls.{paired, sent-by, sent-message, mended-reach, mended-none, read-word, read-none, firstMark-at}
 use Rattle.theory.proofs.Counts.{symbols-from-unmarked}
 use Rattle.theory.proofs.Memory.{front-is, front-fill, settled-full, settled-found, settled-over, cleared-there}
 use Rattle.theory.proofs.Repetition.{repetition-keeps, one-symbol, all-replicate}
 use Rattle.theory.proofs.Words.{same-from-no-toll, toll-self}
 use Rattle.std.specs.declared.option.Option.the-variants.{Some, None}
 use Rattle.std.proofs.shelf.Tests.{le-leb}
-
-abbrev paired : Outcome → List ℕ → Outcome × List ℕ
-paired o ys = (o, ys)
 
 first-taken : (xs : List ℕ) → 1 ≤ length xs → take 1 xs ≡ getD xs 0 0 ∷ []
 first-taken [] h = absurd (omega arith)

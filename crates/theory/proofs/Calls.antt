@@ -13,12 +13,16 @@ use Rattle.std.specs.declared.option.Option.the-variants.{Some, None}
 use Rattle.std.proofs.shelf.Lists.{length-take-le}
 use Rattle.std.proofs.shelf.Tests.{lt-ltb, le-ltb, ltb-true, ltb-false, cond-true, cond-false}
 use Rattle.theory.specs.Alphabets.{Arithmetic}
-use Rattle.theory.specs.Calls.{Outcome, accepted, refused, firstMark, sentBy, sent, mendedBy, mended, readBy, readBack, shown}
+use Rattle.theory.specs.Calls.{Outcome, Answer, accepted, refused, firstMark, sentBy, sent, mendedBy, mended, readBy, readBack, shown}
 use Rattle.theory.specs.Meanings.{Meaning, Keeps}
 use Rattle.theory.specs.Memory.{settled}
 use Rattle.theory.specs.Reach.{InReach, messageInReach, messageOfWord}
 use Rattle.theory.specs.Words.{Symbols}
 use Rattle.theory.proofs.Reach.{found-in-reach, none-in-reach, in-reach-found, read-is-word, none-has-word, own-word-found}
+
+-- an outcome and the memory with it
+abbrev pub paired : Outcome → List ℕ → Answer
+paired o ys = (o, ys)
 
 -- a list without marks has no first mark
 pub firstMark-none : (q : ℕ) (xs : List ℕ) → All (λ x. x < q) xs → firstMark q xs ≡ None

@@ -20,6 +20,8 @@ pub mod Shorten
 pub mod Piles
 pub mod Systematic
 pub mod Search
+pub mod PartCalls
+pub mod TwoParts
 pub mod SystematicCalls
 pub mod Hamming
 pub mod Hexacode

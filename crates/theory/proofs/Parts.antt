@@ -8,13 +8,11 @@ use borrow.Rule.Slice.PartMut.{putMid}
 use lib.Dec.{leb}
 use lib.ListN.{length, take, drop, length-take, length-drop}
 use Rattle.std.proofs.shelf.Tests.{cond-true, cond-false, leb-true}
-use Rattle.theory.specs.Calls.{Outcome, refused}
+use Rattle.theory.specs.Calls.{Outcome, Answer, refused}
 use Rattle.theory.specs.Memory.{over, moved, part}
 use Rattle.theory.specs.Parts.{Call, inPart, callInPart}
+use Rattle.theory.proofs.Calls.{paired}
 use Rattle.theory.proofs.Memory.{putMid-over}
-
-abbrev paired : Outcome → List ℕ → Outcome × List ℕ
-paired o ys = (o, ys)
 
 module _ (call : Call) (from count at w : ℕ) (xs : List ℕ) where
   pub part-missing : leb (at + w) (length xs) ≡ false → paired (refused 1 []) xs ≡ callInPart call from count at w xs
@@ -33,5 +31,5 @@ module _ (call : Call) (from count at w : ℕ) (xs : List ℕ) where
       let size : length last ≡ at + w - at = long ∙ simp (length-take, length-drop) (omega arith) in
       let answer : paired o last ≡ call (part ys at w) = f ∙ ap (λ (k : ℕ). call (take k (drop at ys))) width in
       ap (paired o) (putMid-over at (at + w - at) ys last size)
-      ∙ ap (λ (p : Outcome × List ℕ). paired (p .0) (over ys at (p .1))) answer
+      ∙ ap (λ (p : Answer). paired (p .0) (over ys at (p .1))) answer
       ∙ ap (inPart call at w) is ∙ sym (part-there e)

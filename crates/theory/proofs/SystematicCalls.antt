@@ -18,16 +18,13 @@ use Rattle.theory.specs.Meanings.{Meaning, Keeps}
 use Rattle.theory.specs.Memory.{over, settled, cleared}
 use Rattle.theory.specs.Reach.{InReach, messageInReach, wordInReach}
 use Rattle.theory.specs.Words.{Symbols, wrong, marked, toll}
-use Rattle.theory.proofs.Calls.{symbols-from-no-mark, sent-by, mended-by, read-word, read-none}
+use Rattle.theory.proofs.Calls.{paired, symbols-from-no-mark, sent-by, mended-by, read-word, read-none}
 use Rattle.theory.proofs.Counts.{symbols-from-unmarked}
 use Rattle.theory.proofs.Memory.{settled-full, settled-found, settled-over, cleared-there}
 use Rattle.theory.proofs.Reach.{found-in-reach}
 use Rattle.theory.proofs.Search.{toll-from-damage}
 use Rattle.theory.proofs.Systematic.{systematic}
 use Rattle.theory.proofs.Words.{same-from-no-toll, toll-self}
-
-abbrev paired : Outcome → List ℕ → Outcome × List ℕ
-paired o ys = (o, ys)
 
 module _ (A : Arithmetic) (n k d : ℕ) (checks : List ℕ → List ℕ) (keeps : Keeps A (systematic n k d n checks)) (xs : List ℕ) (room : n ≤ length xs) where
   message-first : k ≤ n

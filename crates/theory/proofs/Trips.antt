@@ -13,7 +13,7 @@ use Rattle.std.specs.shelf.Lists.{All}
 use Rattle.std.proofs.shelf.Lists.{length-take-le}
 use Rattle.std.proofs.shelf.Tests.{lt-ltb, le-ltb, cond-true, cond-false, cases-lt}
 use Rattle.theory.specs.Alphabets.{Arithmetic}
-use Rattle.theory.specs.Calls.{Outcome, accepted, refused, firstMark, sentBy, sent, mendedBy, mended, readBy, readBack}
+use Rattle.theory.specs.Calls.{Outcome, Answer, accepted, refused, firstMark, sentBy, sent, mendedBy, mended, readBy, readBack}
 use Rattle.theory.specs.Meanings.{Meaning, Keeps}
 use Rattle.theory.specs.Memory.{settled}
 use Rattle.theory.specs.Reach.{InReach, messageInReach, messageOfWord}
@@ -22,9 +22,6 @@ use Rattle.theory.specs.Words.{Symbols}
 use Rattle.theory.proofs.Calls.{symbols-from-no-mark, sent-short, sent-by, sent-message, mended-short, mended-by, mended-none, mended-reach, read-short, read-by, read-word}
 use Rattle.theory.proofs.Memory.{length-settled, settled-settled, take-settled}
 use Rattle.theory.proofs.Reach.{found-in-reach, own-word-in-reach, read-is-word}
-
-abbrev Answer : Type 0
-Answer = Outcome × List ℕ
 
 -- a refusal is not an acceptance
 pub not-accepted : (n : ℕ) (values : List ℕ) → refused n values ≡ accepted → ⊥

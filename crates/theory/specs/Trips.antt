@@ -8,17 +8,17 @@ use lib.ListN.{length, take}
 use Rattle.std.specs.declared.option.Option.{Option}
 use Rattle.std.specs.declared.option.Option.the-variants.{Some, None}
 use Rattle.theory.specs.Alphabets.{Arithmetic}
-use Rattle.theory.specs.Calls.{Outcome, accepted, refused, firstMark}
+use Rattle.theory.specs.Calls.{Outcome, Answer, accepted, refused, firstMark}
 use Rattle.theory.specs.Meanings.{Meaning}
 use Rattle.theory.specs.Memory.{settled}
 use Rattle.theory.specs.Reach.{InReach, messageOfWord}
 
 -- send, then read: the message is back in the first k bytes, with zeros behind it
-abbrev pub messageReturnedBy : Meaning → List ℕ → Option ℕ → Outcome × List ℕ
+abbrev pub messageReturnedBy : Meaning → List ℕ → Option ℕ → Answer
 messageReturnedBy m xs None = (accepted, settled (m .w) (take (m .k) xs) xs)
 messageReturnedBy m xs (Some place) = (refused 2 (place ∷ []), xs)
 
-unfoldable pub messageReturned : Arithmetic → Meaning → List ℕ → Outcome × List ℕ
+unfoldable pub messageReturned : Arithmetic → Meaning → List ℕ → Answer
 messageReturned A m xs =
     cond (ltb (length xs) (m .w)) (refused 1 [], xs) (messageReturnedBy m xs (firstMark (A .q) (take (m .k) xs)))
 
@@ -27,7 +27,7 @@ abbrev pub wordReturnedBy : Option (List ℕ) → Outcome
 wordReturnedBy None = refused 4 []
 wordReturnedBy (Some s) = accepted
 
-unfoldable pub wordReturned : Arithmetic → Meaning → List ℕ → Outcome × List ℕ
+unfoldable pub wordReturned : Arithmetic → Meaning → List ℕ → Answer
 wordReturned A m xs =
     cond (ltb (length xs) (m .w)) (refused 1 [], xs) (wordReturnedBy (messageOfWord A m (take (m .n) xs)), settled (m .w) (take (m .n) xs) xs)
 
