@@ -22,6 +22,8 @@ pub mod Systematic
 pub mod Search
 pub mod PartCalls
 pub mod TwoParts
+pub mod SumCalls
+pub mod SumReads
 pub mod SystematicCalls
 pub mod Hamming
 pub mod Hexacode

@@ -98,3 +98,51 @@ module _ (A : Arithmetic) (m : Meaning) (keeps : Keeps A m) (from at : ℕ) (xs 
       go (Some s) e =
           called-in-part (readBack A m) from (m .n) at (m .w) xs (keeps .room-for-word) from-in at-in accepted s (omega (arith, read-is-word A m (part xs from (m .n)) s e .0 .long, keeps .room-for-message))
           (λ ys l f. read-by A m ys (omega (arith, l)) (Some s) (ap (messageOfWord A m) f ∙ e))
+
+-- what mend puts in front of its part, and whether it accepts
+abbrev pub mendResult : Meaning → List ℕ → Option (List ℕ) → List ℕ
+mendResult m received None = received
+mendResult m received (Some s) = m .word s
+
+abbrev pub mendOutcome : Option (List ℕ) → Outcome
+mendOutcome None = refused 3 []
+mendOutcome (Some s) = accepted
+
+module _ (A : Arithmetic) (m : Meaning) (keeps : Keeps A m) where
+  pub mend-result-long : (rs : List ℕ) → length rs ≡ m .n → length (mendResult m rs (messageInReach A m rs)) ≡ m .n
+  mend-result-long rs e = go (messageInReach A m rs) refl
+    where
+      go : (o : Option (List ℕ)) → messageInReach A m rs ≡ o → length (mendResult m rs o) ≡ m .n
+      go None f = e
+      go (Some s) f = keeps .words s (found-in-reach A m rs s f .message) .long
+
+  pub mended-result : (from at : ℕ) (xs : List ℕ) → at + m .w ≤ length xs → from + m .n ≤ length xs → callInPart (mended A m) from (m .n) at (m .w) xs ≡ paired (mendOutcome (messageInReach A m (part xs from (m .n)))) (over xs at (fresh (m .w) (mendResult m (part xs from (m .n)) (messageInReach A m (part xs from (m .n))))))
+  mended-result from at xs at-in from-in = mended-in-part A m keeps from at xs at-in from-in ∙ go (messageInReach A m (part xs from (m .n)))
+    where
+      go : (o : Option (List ℕ)) → mendedPart A m keeps from at xs at-in o ≡ paired (mendOutcome o) (over xs at (fresh (m .w) (mendResult m (part xs from (m .n)) o)))
+      go None = refl
+      go (Some s) = refl
+
+-- what read puts in front of its part, and whether it accepts
+abbrev pub readResult : List ℕ → Option (List ℕ) → List ℕ
+readResult received None = received
+readResult received (Some s) = s
+
+abbrev pub readOutcome : Option (List ℕ) → Outcome
+readOutcome None = refused 4 []
+readOutcome (Some s) = accepted
+
+module _ (A : Arithmetic) (m : Meaning) (keeps : Keeps A m) where
+  pub read-result-fits : (rs : List ℕ) → length rs ≡ m .n → length (readResult rs (messageOfWord A m rs)) ≤ m .w
+  read-result-fits rs e = go (messageOfWord A m rs) refl
+    where
+      go : (o : Option (List ℕ)) → messageOfWord A m rs ≡ o → length (readResult rs o) ≤ m .w
+      go None f = omega (arith, keeps .room-for-word)
+      go (Some s) f = omega (arith, read-is-word A m rs s f .0 .long, keeps .room-for-message)
+
+  pub read-result : (from at : ℕ) (xs : List ℕ) → at + m .w ≤ length xs → from + m .n ≤ length xs → callInPart (readBack A m) from (m .n) at (m .w) xs ≡ paired (readOutcome (messageOfWord A m (part xs from (m .n)))) (over xs at (fresh (m .w) (readResult (part xs from (m .n)) (messageOfWord A m (part xs from (m .n))))))
+  read-result from at xs at-in from-in = read-in-part A m keeps from at xs at-in from-in ∙ go (messageOfWord A m (part xs from (m .n)))
+    where
+      go : (o : Option (List ℕ)) → readPart A m keeps from at xs at-in o ≡ paired (readOutcome o) (over xs at (fresh (m .w) (readResult (part xs from (m .n)) o)))
+      go None = refl
+      go (Some s) = refl

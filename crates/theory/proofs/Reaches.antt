@@ -19,6 +19,8 @@ use Rattle.theory.proofs.Counts.{marked-append, wrong-append}
 use Rattle.theory.proofs.Groups.{plus-symbols, minus-symbol, neg-add, add-zero-right}
 use Rattle.theory.proofs.Symbols.{symbols-take, symbols-drop}
 use Rattle.theory.proofs.Words.{cost, toll-cons}
+pub use Rattle.theory.proofs.Puncture.{toll-with-mark, puncture-reaches-below, below-reaches-puncture}
+pub use Rattle.theory.proofs.Shorten.{toll-with-zero, shorten-reaches-below, below-reaches-shorten}
 
 -- the toll of two words in a row
 pub toll-append : (q : ℕ) (xs ys rs ss : List ℕ) → length xs ≡ length rs → toll q (xs ++ ys) (rs ++ ss) ≡ toll q xs rs + toll q ys ss

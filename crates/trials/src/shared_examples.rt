@@ -12,6 +12,9 @@ mod tests {
     use codes::tolls::damage_between;
     use codes::tolls::first_mark;
     use std::test::*;
+    use theory::longest_working_length;
+    use theory::shown_messages;
+    use theory::worked_examples;
 
     #[test]
     fn ranges_move_and_what_is_not_there_stays() -> Result<(), Fail> {
@@ -49,7 +52,14 @@ mod tests {
     }
 
     #[test]
-    fn the_making_refusal_has_its_number() -> Result<(), Fail> {
+    fn the_making_refusals_have_their_numbers() -> Result<(), Fail> {
+        check_eq(MakingRefusal::WorkingTooLong.number(), 6)?;
         check_eq(MakingRefusal::OutOfRange.number(), 11)
+    }
+
+    #[test]
+    fn the_definitions_answer_their_numbers() -> Result<(), Fail> {
+        check_eq(worked_examples(), 15)?;
+        check_eq((longest_working_length(), shown_messages()), (4096, 2))
     }
 }
