@@ -10,10 +10,10 @@ use lib.ListN.{length, take, drop, getD, replicate}
 use Rattle.std.specs.Options.{mapped}
 use Rattle.std.specs.declared.option.Option.the-variants.{Some, None}
 use Rattle.std.proofs.shelf.Lists.{getD-append-left, getD-append-right, getD-take, getD-drop, take-at, drop-at, append-cancel-left, append-cancel-right}
-use Rattle.std.proofs.shelf.Tests.{ltb-true, ltb-false, le-ltb, leb-true, leb-false, cond-false}
+use Rattle.std.proofs.shelf.Tests.{ltb-true, ltb-false, le-ltb, leb-true, leb-false, le-leb, lt-leb, cond-true, cond-false}
 use Rattle.theory.specs.Alphabets.{Arithmetic, Lawful}
-use Rattle.theory.specs.Joins.{directSum}
-use Rattle.theory.specs.Meanings.{Meaning, Keeps}
+use Rattle.theory.specs.Joins.{directSum, directSumMaking}
+use Rattle.theory.specs.Meanings.{Meaning, Keeps, made, refusedMaking}
 use Rattle.theory.specs.Pairs.{AtDistance}
 use Rattle.theory.specs.Piles.{Pair, pairOfParts, sumPair}
 use Rattle.theory.specs.Words.{Symbols, differ}
@@ -125,3 +125,12 @@ module _ (A : Arithmetic) (laws : Lawful A) (u v : Meaning) (keeps-u : Keeps A u
       go : (b : Bool) → leb (u .d) (v .d) ≡ b → AtDistance A (directSum u v) (pairOfParts b u v of-u of-v .0) (pairOfParts b u v of-u of-v .1)
       go true e = left-pair (leb-true (u .d) (v .d) e) (of-u .0) (of-u .1) hu
       go false e = right-pair (leb-false (u .d) (v .d) e) (of-v .0) (of-v .1) hv
+
+-- the making, accepted and refused
+pub sum-made : (u v : Meaning) → u .n + v .n + u .w + v .w ≤ 4096 → made (directSum u v) ≡ directSumMaking u v
+unfolding directSumMaking
+sum-made u v h = sym (cond-true (leb (u .n + v .n + u .w + v .w) 4096) (made (directSum u v)) (refusedMaking 6) (le-leb (u .n + v .n + u .w + v .w) 4096 h))
+
+pub sum-refused : (u v : Meaning) → 4096 < u .n + v .n + u .w + v .w → refusedMaking 6 ≡ directSumMaking u v
+unfolding directSumMaking
+sum-refused u v h = sym (cond-false (leb (u .n + v .n + u .w + v .w) 4096) (made (directSum u v)) (refusedMaking 6) (lt-leb (u .n + v .n + u .w + v .w) 4096 h))

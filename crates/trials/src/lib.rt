@@ -16,5 +16,6 @@ pub fn number(answer: Result<(), Refusal>) -> u8
 mod alphabet_examples;
 mod code_examples;
 mod field_examples;
+mod join_examples;
 mod part_examples;
 mod shared_examples;
