@@ -1,4 +1,6 @@
 // Alphabets: what one is, and the alphabets of two, three and four symbols.
+#![tactic(auto)]
+
 ghost use Rattle.std.specs.Prelude.{◌≡◌};
 ghost use Rattle.theory.specs.Alphabets.{Arithmetic, Lawful, plus, minus, two, three, four, times4};
 ghost use Rattle.theory.proofs.Alphabets.{two_lawful, three_lawful, four_lawful};

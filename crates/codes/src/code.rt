@@ -56,7 +56,7 @@ pub trait Showing: Code {
     /// Two different messages whose words differ in exactly d places, one after the other in the first 2k bytes.
     fn show(&self, memory: &mut [u8]) -> Result<(), Refusal>
         ensures answer { Self.Code.fit self.now → (outcome result, memory.new) ≡ shown (Self.Code.meaning self.now) (pair self.now).0 (pair self.now).1 memory.old }
-        ensures at_distance { Self.Code.fit self.now → AtDistance Showing.Symbols.Alphabet.symbols (Self.Code.meaning self.now) (pair self.now).0 (pair self.now).1 };
+        ensures at_distance { Self.Code.fit self.now → AtDistance Self.Symbols.Alphabet.symbols (Self.Code.meaning self.now) (pair self.now).0 (pair self.now).1 };
 
-    ghost shows: { (c : Self) → Self.Code.fit c → AtDistance Showing.Symbols.Alphabet.symbols (Self.Code.meaning c) (pair c).0 (pair c).1 };
+    ghost shows: { (c : Self) → Self.Code.fit c → AtDistance Self.Symbols.Alphabet.symbols (Self.Code.meaning c) (pair c).0 (pair c).1 };
 }

@@ -1,4 +1,6 @@
 // Reads a script from standard input and prints what each of its commands did.
+#![tactic(auto)]
+
 mod command;
 mod desk;
 mod fault;

@@ -1,4 +1,6 @@
 // The cue store over any code: recording, holding, wiping, touching up and recalling cues whose words stand in lent cells.
+#![tactic(auto)]
+
 pub mod kept;
 pub mod making;
 pub mod plotting_store;

@@ -29,8 +29,8 @@ pub struct Plotting<C> {
 impl<C: Code + Drop> Plotting<C> {
     /// A new store of so many cues and levels over this code; a refused making uses the code up.
     pub fn new(code: C, cues: usize, levels: usize) -> Result<Plotting<C>, StoreRefusal>
-        ensures making { C.Code.fit code → store_outcome result ≡ store_making Symbols-as-Alphabet.symbols (C.Code.meaning code) (plan_of cues levels) }
-        ensures fits { C.Code.fit code → IfOk result (λ s. FitStore (C.Code.fit s.store.code) Symbols-as-Alphabet.symbols (C.Code.meaning s.store.code) s.store.shape) }
+        ensures making { C.Code.fit code → store_outcome result ≡ store_making C.Symbols.Alphabet.symbols (C.Code.meaning code) (plan_of cues levels) }
+        ensures fits { C.Code.fit code → IfOk result (λ s. FitStore (C.Code.fit s.store.code) C.Symbols.Alphabet.symbols (C.Code.meaning s.store.code) s.store.shape) }
         ensures store { IfOk result (λ s. (s.store.code ≡ code) × (plan_in s.store.shape ≡ plan_of cues levels) × (state_in s.store.kept ≡ new_state)) }
     {
         let shape = shape_of(&code, cues, levels)?;
@@ -51,7 +51,7 @@ impl<C: Code + Drop> Plotting<C> {
         cells: &mut [u8],
         memory: &mut [u8],
     ) -> Result<(), StoreRefusal>
-        ensures answer { FitStore (C.Code.fit self.old.store.code) Symbols-as-Alphabet.symbols (C.Code.meaning self.old.store.code) self.old.store.shape → (store_outcome result, state_in self.new.store.kept, cells.new, levels.now, memory.new) ≡ recorded_cue Symbols-as-Alphabet.symbols (C.Code.meaning self.old.store.code) (plan_in self.old.store.shape) cue (state_in self.old.store.kept) cells.old levels.now memory.old }
+        ensures answer { FitStore (C.Code.fit self.old.store.code) C.Symbols.Alphabet.symbols (C.Code.meaning self.old.store.code) self.old.store.shape → (store_outcome result, state_in self.new.store.kept, cells.new, levels.now, memory.new) ≡ recorded_cue C.Symbols.Alphabet.symbols (C.Code.meaning self.old.store.code) (plan_in self.old.store.shape) cue (state_in self.old.store.kept) cells.old levels.now memory.old }
         ensures same { SameStore self.old.store self.new.store }
     {
         if cue >= self.store.shape.cues {
@@ -79,7 +79,7 @@ impl<C: Code + Drop> Plotting<C> {
         cells: &mut [u8],
         memory: &mut [u8],
     ) -> Result<(), StoreRefusal>
-        ensures answer { FitStore (C.Code.fit self.old.store.code) Symbols-as-Alphabet.symbols (C.Code.meaning self.old.store.code) self.old.store.shape → (store_outcome result, state_in self.new.store.kept, cells.new, levels.now, memory.new) ≡ recorded_cue_by_slip Symbols-as-Alphabet.symbols (C.Code.meaning self.old.store.code) (plan_in self.old.store.shape) slip.now.cue (state_in self.old.store.kept) cells.old levels.now memory.old }
+        ensures answer { FitStore (C.Code.fit self.old.store.code) C.Symbols.Alphabet.symbols (C.Code.meaning self.old.store.code) self.old.store.shape → (store_outcome result, state_in self.new.store.kept, cells.new, levels.now, memory.new) ≡ recorded_cue_by_slip C.Symbols.Alphabet.symbols (C.Code.meaning self.old.store.code) (plan_in self.old.store.shape) slip.now.cue (state_in self.old.store.kept) cells.old levels.now memory.old }
         ensures same { SameStore self.old.store self.new.store }
     {
         let cue = slip.cue;
@@ -129,7 +129,7 @@ impl<C: Code + Drop> Plotting<C> {
 
     /// Zeroes the cells of the cue, which is then empty.
     pub fn wipe(&mut self, cue: usize, cells: &mut [u8]) -> Result<(), StoreRefusal>
-        ensures answer { FitStore (C.Code.fit self.old.store.code) Symbols-as-Alphabet.symbols (C.Code.meaning self.old.store.code) self.old.store.shape → (store_outcome result, state_in self.new.store.kept, cells.new) ≡ wiped_cue Symbols-as-Alphabet.symbols (C.Code.meaning self.old.store.code) (plan_in self.old.store.shape) cue (state_in self.old.store.kept) cells.old }
+        ensures answer { FitStore (C.Code.fit self.old.store.code) C.Symbols.Alphabet.symbols (C.Code.meaning self.old.store.code) self.old.store.shape → (store_outcome result, state_in self.new.store.kept, cells.new) ≡ wiped_cue C.Symbols.Alphabet.symbols (C.Code.meaning self.old.store.code) (plan_in self.old.store.shape) cue (state_in self.old.store.kept) cells.old }
         ensures same { SameStore self.old.store self.new.store }
     {
         if cue >= self.store.shape.cues {
@@ -155,7 +155,7 @@ impl<C: Code + Drop> Plotting<C> {
         cells: &mut [u8],
         memory: &mut [u8],
     ) -> Result<Touched, StoreRefusal>
-        ensures answer { FitStore (C.Code.fit self.old.store.code) Symbols-as-Alphabet.symbols (C.Code.meaning self.old.store.code) self.old.store.shape → (touch_outcome result, state_in self.new.store.kept, cells.new, memory.new) ≡ touched_up_cue Symbols-as-Alphabet.symbols (C.Code.meaning self.old.store.code) (plan_in self.old.store.shape) cue (state_in self.old.store.kept) cells.old memory.old }
+        ensures answer { FitStore (C.Code.fit self.old.store.code) C.Symbols.Alphabet.symbols (C.Code.meaning self.old.store.code) self.old.store.shape → (touch_outcome result, state_in self.new.store.kept, cells.new, memory.new) ≡ touched_up_cue C.Symbols.Alphabet.symbols (C.Code.meaning self.old.store.code) (plan_in self.old.store.shape) cue (state_in self.old.store.kept) cells.old memory.old }
         ensures same { SameStore self.old.store self.new.store }
     {
         self.store.touch_up(cue, cells, memory)
@@ -169,8 +169,8 @@ impl<C: Code + Drop> Plotting<C> {
         levels: &mut [u8],
         memory: &mut [u8],
     ) -> Result<(), StoreRefusal>
-        ensures answer { FitStore (C.Code.fit self.now.store.code) Symbols-as-Alphabet.symbols (C.Code.meaning self.now.store.code) self.now.store.shape → (store_outcome result, state_in self.now.store.kept, cells.now, levels.new, memory.new) ≡ recalled_cue Symbols-as-Alphabet.symbols (C.Code.meaning self.now.store.code) (plan_in self.now.store.shape) cue (state_in self.now.store.kept) cells.now levels.old memory.old }
-        ensures recall_gives_what_was_last_recorded { FitStore (C.Code.fit self.now.store.code) Symbols-as-Alphabet.symbols (C.Code.meaning self.now.store.code) self.now.store.shape → LastRecorded Symbols-as-Alphabet.symbols (C.Code.meaning self.now.store.code) (plan_in self.now.store.shape) cue (state_in self.now.store.kept) cells.now levels.old memory.old (store_outcome result, state_in self.now.store.kept, cells.now, levels.new, memory.new) }
+        ensures answer { FitStore (C.Code.fit self.now.store.code) C.Symbols.Alphabet.symbols (C.Code.meaning self.now.store.code) self.now.store.shape → (store_outcome result, state_in self.now.store.kept, cells.now, levels.new, memory.new) ≡ recalled_cue C.Symbols.Alphabet.symbols (C.Code.meaning self.now.store.code) (plan_in self.now.store.shape) cue (state_in self.now.store.kept) cells.now levels.old memory.old }
+        ensures recall_gives_what_was_last_recorded { FitStore (C.Code.fit self.now.store.code) C.Symbols.Alphabet.symbols (C.Code.meaning self.now.store.code) self.now.store.shape → LastRecorded C.Symbols.Alphabet.symbols (C.Code.meaning self.now.store.code) (plan_in self.now.store.shape) cue (state_in self.now.store.kept) cells.now levels.old memory.old (store_outcome result, state_in self.now.store.kept, cells.now, levels.new, memory.new) }
     {
         self.store.recall(cue, cells, levels, memory)
     }
@@ -185,7 +185,7 @@ impl<C: Code + Drop> Plotting<C> {
     /// How many words a cue has.
     pub fn words(&self) -> usize
         ensures number { result ≡ self.now.store.shape.words }
-        ensures answer { FitStore (C.Code.fit self.now.store.code) Symbols-as-Alphabet.symbols (C.Code.meaning self.now.store.code) self.now.store.shape → result ≡ word_count Symbols-as-Alphabet.symbols (C.Code.meaning self.now.store.code) (plan_in self.now.store.shape) }
+        ensures answer { FitStore (C.Code.fit self.now.store.code) C.Symbols.Alphabet.symbols (C.Code.meaning self.now.store.code) self.now.store.shape → result ≡ word_count C.Symbols.Alphabet.symbols (C.Code.meaning self.now.store.code) (plan_in self.now.store.shape) }
     {
         self.store.shape.words
     }
@@ -193,7 +193,7 @@ impl<C: Code + Drop> Plotting<C> {
     /// How many cells all cues have together.
     pub fn cells(&self) -> usize
         ensures number { result ≡ self.now.store.shape.cells }
-        ensures answer { FitStore (C.Code.fit self.now.store.code) Symbols-as-Alphabet.symbols (C.Code.meaning self.now.store.code) self.now.store.shape → result ≡ cell_count Symbols-as-Alphabet.symbols (C.Code.meaning self.now.store.code) (plan_in self.now.store.shape) }
+        ensures answer { FitStore (C.Code.fit self.now.store.code) C.Symbols.Alphabet.symbols (C.Code.meaning self.now.store.code) self.now.store.shape → result ≡ cell_count C.Symbols.Alphabet.symbols (C.Code.meaning self.now.store.code) (plan_in self.now.store.shape) }
     {
         self.store.shape.cells
     }
@@ -201,7 +201,7 @@ impl<C: Code + Drop> Plotting<C> {
     /// How many bytes of working memory a call needs.
     pub fn working_length(&self) -> usize
         ensures number { result ≡ self.now.store.shape.numbers.working }
-        ensures answer { FitStore (C.Code.fit self.now.store.code) Symbols-as-Alphabet.symbols (C.Code.meaning self.now.store.code) self.now.store.shape → result ≡ (C.Code.meaning self.now.store.code).w }
+        ensures answer { FitStore (C.Code.fit self.now.store.code) C.Symbols.Alphabet.symbols (C.Code.meaning self.now.store.code) self.now.store.shape → result ≡ (C.Code.meaning self.now.store.code).w }
     {
         self.store.shape.numbers.working
     }

@@ -25,7 +25,7 @@ impl<C: Code + Drop> Store<C> {
         memory: &mut [u8],
     ) -> Result<(), StoreRefusal>
         requires { (Enough self.now.shape cue (length cells.now) (length memory.old)) × (word < self.now.shape.words) }
-        ensures { FitStore (C.Code.fit self.now.code) Symbols-as-Alphabet.symbols (C.Code.meaning self.now.code) self.now.shape → (store_outcome result, memory.new) ≡ mended_copy Symbols-as-Alphabet.symbols (C.Code.meaning self.now.code) (plan_in self.now.shape) cue word (part cells.now (cell_of_word Symbols-as-Alphabet.symbols (C.Code.meaning self.now.code) (plan_in self.now.shape) cue word) (C.Code.meaning self.now.code).n) memory.old (message_in_reach Symbols-as-Alphabet.symbols (C.Code.meaning self.now.code) (part cells.now (cell_of_word Symbols-as-Alphabet.symbols (C.Code.meaning self.now.code) (plan_in self.now.shape) cue word) (C.Code.meaning self.now.code).n)) }
+        ensures { FitStore (C.Code.fit self.now.code) C.Symbols.Alphabet.symbols (C.Code.meaning self.now.code) self.now.shape → (store_outcome result, memory.new) ≡ mended_copy C.Symbols.Alphabet.symbols (C.Code.meaning self.now.code) (plan_in self.now.shape) cue word (part cells.now (cell_of_word C.Symbols.Alphabet.symbols (C.Code.meaning self.now.code) (plan_in self.now.shape) cue word) (C.Code.meaning self.now.code).n) memory.old (message_in_reach C.Symbols.Alphabet.symbols (C.Code.meaning self.now.code) (part cells.now (cell_of_word C.Symbols.Alphabet.symbols (C.Code.meaning self.now.code) (plan_in self.now.shape) cue word) (C.Code.meaning self.now.code).n)) }
     {
         let start = self.shape.word_start(cue, word);
         copy_between(memory, 0, cells, start, self.shape.numbers.length);
@@ -38,7 +38,7 @@ impl<C: Code + Drop> Store<C> {
     /// Goes over all words of the cue for the first beyond reach.
     fn mend_words(&self, cue: usize, cells: &[u8], memory: &mut [u8]) -> Result<(), StoreRefusal>
         requires { Enough self.now.shape cue (length cells.now) (length memory.old) }
-        ensures { FitStore (C.Code.fit self.now.code) Symbols-as-Alphabet.symbols (C.Code.meaning self.now.code) self.now.shape → ReachedAll Symbols-as-Alphabet.symbols (C.Code.meaning self.now.code) (plan_in self.now.shape) cue cells.now memory.old (store_outcome result) memory.new }
+        ensures { FitStore (C.Code.fit self.now.code) C.Symbols.Alphabet.symbols (C.Code.meaning self.now.code) self.now.shape → ReachedAll C.Symbols.Alphabet.symbols (C.Code.meaning self.now.code) (plan_in self.now.shape) cue cells.now memory.old (store_outcome result) memory.new }
     {
         for word in 0..self.shape.words {
             self.mend_word(cue, word, cells, memory)?;
@@ -55,7 +55,7 @@ impl<C: Code + Drop> Store<C> {
         memory: &mut [u8],
     ) -> Result<(), StoreRefusal>
         requires { (Enough self.now.shape cue (length cells.now) (length memory.old)) × (word < self.now.shape.words) }
-        ensures { FitStore (C.Code.fit self.now.code) Symbols-as-Alphabet.symbols (C.Code.meaning self.now.code) self.now.shape → AllReached Symbols-as-Alphabet.symbols (C.Code.meaning self.now.code) (plan_in self.now.shape) cue cells.now → ReadWord Symbols-as-Alphabet.symbols (C.Code.meaning self.now.code) (plan_in self.now.shape) cue word cells.now memory.old (store_outcome result) memory.new }
+        ensures { FitStore (C.Code.fit self.now.code) C.Symbols.Alphabet.symbols (C.Code.meaning self.now.code) self.now.shape → AllReached C.Symbols.Alphabet.symbols (C.Code.meaning self.now.code) (plan_in self.now.shape) cue cells.now → ReadWord C.Symbols.Alphabet.symbols (C.Code.meaning self.now.code) (plan_in self.now.shape) cue word cells.now memory.old (store_outcome result) memory.new }
     {
         self.mend_word(cue, word, cells, memory)?;
         match self.code.read(memory) {
@@ -73,7 +73,7 @@ impl<C: Code + Drop> Store<C> {
         memory: &mut [u8],
     ) -> Result<u8, StoreRefusal>
         requires { (Enough self.now.shape cue (length cells.now) (length memory.old)) × (place < self.now.shape.words * self.now.shape.numbers.dimension) }
-        ensures { FitStore (C.Code.fit self.now.code) Symbols-as-Alphabet.symbols (C.Code.meaning self.now.code) self.now.shape → AllReached Symbols-as-Alphabet.symbols (C.Code.meaning self.now.code) (plan_in self.now.shape) cue cells.now → Loaded Symbols-as-Alphabet.symbols (C.Code.meaning self.now.code) (plan_in self.now.shape) cue cells.now place memory.old → ReadSymbol Symbols-as-Alphabet.symbols (C.Code.meaning self.now.code) (plan_in self.now.shape) cue place cells.now memory.old result memory.new }
+        ensures { FitStore (C.Code.fit self.now.code) C.Symbols.Alphabet.symbols (C.Code.meaning self.now.code) self.now.shape → AllReached C.Symbols.Alphabet.symbols (C.Code.meaning self.now.code) (plan_in self.now.shape) cue cells.now → Loaded C.Symbols.Alphabet.symbols (C.Code.meaning self.now.code) (plan_in self.now.shape) cue cells.now place memory.old → ReadSymbol C.Symbols.Alphabet.symbols (C.Code.meaning self.now.code) (plan_in self.now.shape) cue place cells.now memory.old result memory.new }
     {
         let dimension = self.shape.numbers.dimension;
         if place % dimension == 0 {
@@ -91,7 +91,7 @@ impl<C: Code + Drop> Store<C> {
         memory: &mut [u8],
     ) -> Result<usize, StoreRefusal>
         requires { (Enough self.now.shape cue (length cells.now) (length memory.old)) × (level < self.now.shape.levels) }
-        ensures { FitStore (C.Code.fit self.now.code) Symbols-as-Alphabet.symbols (C.Code.meaning self.now.code) self.now.shape → AllReached Symbols-as-Alphabet.symbols (C.Code.meaning self.now.code) (plan_in self.now.shape) cue cells.now → Loaded Symbols-as-Alphabet.symbols (C.Code.meaning self.now.code) (plan_in self.now.shape) cue cells.now (level * Symbols-as-Alphabet.symbols.b) memory.old → ReadLevel Symbols-as-Alphabet.symbols (C.Code.meaning self.now.code) (plan_in self.now.shape) cue level cells.now memory.old result memory.new }
+        ensures { FitStore (C.Code.fit self.now.code) C.Symbols.Alphabet.symbols (C.Code.meaning self.now.code) self.now.shape → AllReached C.Symbols.Alphabet.symbols (C.Code.meaning self.now.code) (plan_in self.now.shape) cue cells.now → Loaded C.Symbols.Alphabet.symbols (C.Code.meaning self.now.code) (plan_in self.now.shape) cue cells.now (level * C.Symbols.Alphabet.symbols.b) memory.old → ReadLevel C.Symbols.Alphabet.symbols (C.Code.meaning self.now.code) (plan_in self.now.shape) cue level cells.now memory.old result memory.new }
     {
         let start = level * self.shape.width;
         let mut number = 0;
@@ -111,7 +111,7 @@ impl<C: Code + Drop> Store<C> {
         memory: &mut [u8],
     ) -> Result<(), StoreRefusal>
         requires { (Enough self.now.shape cue (length cells.now) (length memory.old)) × (self.now.shape.levels ≤ length levels.old) }
-        ensures { FitStore (C.Code.fit self.now.code) Symbols-as-Alphabet.symbols (C.Code.meaning self.now.code) self.now.shape → AllReached Symbols-as-Alphabet.symbols (C.Code.meaning self.now.code) (plan_in self.now.shape) cue cells.now → ShownLevels Symbols-as-Alphabet.symbols (C.Code.meaning self.now.code) (plan_in self.now.shape) cue cells.now levels.old memory.old (store_outcome result) levels.new memory.new }
+        ensures { FitStore (C.Code.fit self.now.code) C.Symbols.Alphabet.symbols (C.Code.meaning self.now.code) self.now.shape → AllReached C.Symbols.Alphabet.symbols (C.Code.meaning self.now.code) (plan_in self.now.shape) cue cells.now → ShownLevels C.Symbols.Alphabet.symbols (C.Code.meaning self.now.code) (plan_in self.now.shape) cue cells.now levels.old memory.old (store_outcome result) levels.new memory.new }
     {
         for level in 0..self.shape.levels {
             let number = self.next_level(cue, level, cells, memory)?;
@@ -126,7 +126,7 @@ impl<C: Code + Drop> Store<C> {
     /// Goes over the symbols behind the last level for one that is not 0.
     fn check_filling(&self, cue: usize, cells: &[u8], memory: &mut [u8]) -> Result<(), StoreRefusal>
         requires { Enough self.now.shape cue (length cells.now) (length memory.old) }
-        ensures { FitStore (C.Code.fit self.now.code) Symbols-as-Alphabet.symbols (C.Code.meaning self.now.code) self.now.shape → AllReached Symbols-as-Alphabet.symbols (C.Code.meaning self.now.code) (plan_in self.now.shape) cue cells.now → Loaded Symbols-as-Alphabet.symbols (C.Code.meaning self.now.code) (plan_in self.now.shape) cue cells.now (symbol_count Symbols-as-Alphabet.symbols (plan_in self.now.shape)) memory.old → CheckedFilling Symbols-as-Alphabet.symbols (C.Code.meaning self.now.code) (plan_in self.now.shape) cue cells.now memory.old (store_outcome result) memory.new }
+        ensures { FitStore (C.Code.fit self.now.code) C.Symbols.Alphabet.symbols (C.Code.meaning self.now.code) self.now.shape → AllReached C.Symbols.Alphabet.symbols (C.Code.meaning self.now.code) (plan_in self.now.shape) cue cells.now → Loaded C.Symbols.Alphabet.symbols (C.Code.meaning self.now.code) (plan_in self.now.shape) cue cells.now (symbol_count C.Symbols.Alphabet.symbols (plan_in self.now.shape)) memory.old → CheckedFilling C.Symbols.Alphabet.symbols (C.Code.meaning self.now.code) (plan_in self.now.shape) cue cells.now memory.old (store_outcome result) memory.new }
     {
         let end = self.shape.words * self.shape.numbers.dimension;
         for place in self.shape.levels * self.shape.width..end {
@@ -147,7 +147,7 @@ impl<C: Code + Drop> Store<C> {
         memory: &mut [u8],
     ) -> Result<(), StoreRefusal>
         requires { (Enough self.now.shape cue (length cells.now) (length memory.old)) × (self.now.shape.levels ≤ length levels.old) }
-        ensures { FitStore (C.Code.fit self.now.code) Symbols-as-Alphabet.symbols (C.Code.meaning self.now.code) self.now.shape → ReadLevels Symbols-as-Alphabet.symbols (C.Code.meaning self.now.code) (plan_in self.now.shape) cue cells.now levels.old memory.old (store_outcome result) levels.new memory.new }
+        ensures { FitStore (C.Code.fit self.now.code) C.Symbols.Alphabet.symbols (C.Code.meaning self.now.code) self.now.shape → ReadLevels C.Symbols.Alphabet.symbols (C.Code.meaning self.now.code) (plan_in self.now.shape) cue cells.now levels.old memory.old (store_outcome result) levels.new memory.new }
     {
         self.mend_words(cue, cells, memory)?;
         self.show_levels(cue, cells, levels, memory)?;
@@ -162,8 +162,8 @@ impl<C: Code + Drop> Store<C> {
         levels: &mut [u8],
         memory: &mut [u8],
     ) -> Result<(), StoreRefusal>
-        ensures answer { FitStore (C.Code.fit self.now.code) Symbols-as-Alphabet.symbols (C.Code.meaning self.now.code) self.now.shape → (store_outcome result, state_in self.now.kept, cells.now, levels.new, memory.new) ≡ recalled_cue Symbols-as-Alphabet.symbols (C.Code.meaning self.now.code) (plan_in self.now.shape) cue (state_in self.now.kept) cells.now levels.old memory.old }
-        ensures recall_gives_what_was_last_recorded { FitStore (C.Code.fit self.now.code) Symbols-as-Alphabet.symbols (C.Code.meaning self.now.code) self.now.shape → LastRecorded Symbols-as-Alphabet.symbols (C.Code.meaning self.now.code) (plan_in self.now.shape) cue (state_in self.now.kept) cells.now levels.old memory.old (store_outcome result, state_in self.now.kept, cells.now, levels.new, memory.new) }
+        ensures answer { FitStore (C.Code.fit self.now.code) C.Symbols.Alphabet.symbols (C.Code.meaning self.now.code) self.now.shape → (store_outcome result, state_in self.now.kept, cells.now, levels.new, memory.new) ≡ recalled_cue C.Symbols.Alphabet.symbols (C.Code.meaning self.now.code) (plan_in self.now.shape) cue (state_in self.now.kept) cells.now levels.old memory.old }
+        ensures recall_gives_what_was_last_recorded { FitStore (C.Code.fit self.now.code) C.Symbols.Alphabet.symbols (C.Code.meaning self.now.code) self.now.shape → LastRecorded C.Symbols.Alphabet.symbols (C.Code.meaning self.now.code) (plan_in self.now.shape) cue (state_in self.now.kept) cells.now levels.old memory.old (store_outcome result, state_in self.now.kept, cells.now, levels.new, memory.new) }
     {
         if cue >= self.shape.cues {
             return Err(StoreRefusal::NoSuchCue);

@@ -26,7 +26,7 @@ impl<C: Code + Drop> Running<C> {
         cells: &mut [u8],
         memory: &mut [u8],
     ) -> Result<Touched, StoreRefusal>
-        ensures answer { FitStore (C.Code.fit self.old.store.code) Symbols-as-Alphabet.symbols (C.Code.meaning self.old.store.code) self.old.store.shape → (touch_outcome result, state_in self.new.store.kept, cells.new, memory.new) ≡ touched_up_cue Symbols-as-Alphabet.symbols (C.Code.meaning self.old.store.code) (plan_in self.old.store.shape) cue (state_in self.old.store.kept) cells.old memory.old }
+        ensures answer { FitStore (C.Code.fit self.old.store.code) C.Symbols.Alphabet.symbols (C.Code.meaning self.old.store.code) self.old.store.shape → (touch_outcome result, state_in self.new.store.kept, cells.new, memory.new) ≡ touched_up_cue C.Symbols.Alphabet.symbols (C.Code.meaning self.old.store.code) (plan_in self.old.store.shape) cue (state_in self.old.store.kept) cells.old memory.old }
         ensures same { SameStore self.old.store self.new.store }
     {
         self.store.touch_up(cue, cells, memory)
@@ -40,8 +40,8 @@ impl<C: Code + Drop> Running<C> {
         levels: &mut [u8],
         memory: &mut [u8],
     ) -> Result<(), StoreRefusal>
-        ensures answer { FitStore (C.Code.fit self.now.store.code) Symbols-as-Alphabet.symbols (C.Code.meaning self.now.store.code) self.now.store.shape → (store_outcome result, state_in self.now.store.kept, cells.now, levels.new, memory.new) ≡ recalled_cue Symbols-as-Alphabet.symbols (C.Code.meaning self.now.store.code) (plan_in self.now.store.shape) cue (state_in self.now.store.kept) cells.now levels.old memory.old }
-        ensures recall_gives_what_was_last_recorded { FitStore (C.Code.fit self.now.store.code) Symbols-as-Alphabet.symbols (C.Code.meaning self.now.store.code) self.now.store.shape → LastRecorded Symbols-as-Alphabet.symbols (C.Code.meaning self.now.store.code) (plan_in self.now.store.shape) cue (state_in self.now.store.kept) cells.now levels.old memory.old (store_outcome result, state_in self.now.store.kept, cells.now, levels.new, memory.new) }
+        ensures answer { FitStore (C.Code.fit self.now.store.code) C.Symbols.Alphabet.symbols (C.Code.meaning self.now.store.code) self.now.store.shape → (store_outcome result, state_in self.now.store.kept, cells.now, levels.new, memory.new) ≡ recalled_cue C.Symbols.Alphabet.symbols (C.Code.meaning self.now.store.code) (plan_in self.now.store.shape) cue (state_in self.now.store.kept) cells.now levels.old memory.old }
+        ensures recall_gives_what_was_last_recorded { FitStore (C.Code.fit self.now.store.code) C.Symbols.Alphabet.symbols (C.Code.meaning self.now.store.code) self.now.store.shape → LastRecorded C.Symbols.Alphabet.symbols (C.Code.meaning self.now.store.code) (plan_in self.now.store.shape) cue (state_in self.now.store.kept) cells.now levels.old memory.old (store_outcome result, state_in self.now.store.kept, cells.now, levels.new, memory.new) }
     {
         self.store.recall(cue, cells, levels, memory)
     }
@@ -56,7 +56,7 @@ impl<C: Code + Drop> Running<C> {
     /// How many words a cue has.
     pub fn words(&self) -> usize
         ensures number { result ≡ self.now.store.shape.words }
-        ensures answer { FitStore (C.Code.fit self.now.store.code) Symbols-as-Alphabet.symbols (C.Code.meaning self.now.store.code) self.now.store.shape → result ≡ word_count Symbols-as-Alphabet.symbols (C.Code.meaning self.now.store.code) (plan_in self.now.store.shape) }
+        ensures answer { FitStore (C.Code.fit self.now.store.code) C.Symbols.Alphabet.symbols (C.Code.meaning self.now.store.code) self.now.store.shape → result ≡ word_count C.Symbols.Alphabet.symbols (C.Code.meaning self.now.store.code) (plan_in self.now.store.shape) }
     {
         self.store.shape.words
     }
@@ -64,7 +64,7 @@ impl<C: Code + Drop> Running<C> {
     /// How many cells all cues have together.
     pub fn cells(&self) -> usize
         ensures number { result ≡ self.now.store.shape.cells }
-        ensures answer { FitStore (C.Code.fit self.now.store.code) Symbols-as-Alphabet.symbols (C.Code.meaning self.now.store.code) self.now.store.shape → result ≡ cell_count Symbols-as-Alphabet.symbols (C.Code.meaning self.now.store.code) (plan_in self.now.store.shape) }
+        ensures answer { FitStore (C.Code.fit self.now.store.code) C.Symbols.Alphabet.symbols (C.Code.meaning self.now.store.code) self.now.store.shape → result ≡ cell_count C.Symbols.Alphabet.symbols (C.Code.meaning self.now.store.code) (plan_in self.now.store.shape) }
     {
         self.store.shape.cells
     }
@@ -72,7 +72,7 @@ impl<C: Code + Drop> Running<C> {
     /// How many bytes of working memory a call needs.
     pub fn working_length(&self) -> usize
         ensures number { result ≡ self.now.store.shape.numbers.working }
-        ensures answer { FitStore (C.Code.fit self.now.store.code) Symbols-as-Alphabet.symbols (C.Code.meaning self.now.store.code) self.now.store.shape → result ≡ (C.Code.meaning self.now.store.code).w }
+        ensures answer { FitStore (C.Code.fit self.now.store.code) C.Symbols.Alphabet.symbols (C.Code.meaning self.now.store.code) self.now.store.shape → result ≡ (C.Code.meaning self.now.store.code).w }
     {
         self.store.shape.numbers.working
     }

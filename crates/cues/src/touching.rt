@@ -30,7 +30,7 @@ impl<C: Code + Drop> Store<C> {
     fn touch_word(&self, cue: usize, word: usize, cells: &mut [u8], memory: &mut [u8]) -> Touched
         requires { (Enough self.now.shape cue (length cells.old) (length memory.old)) × (word < self.now.shape.words) }
         ensures small { (result.changed ≤ 1) × (result.beyond_reach ≤ 1) }
-        ensures answer { FitStore (C.Code.fit self.now.code) Symbols-as-Alphabet.symbols (C.Code.meaning self.now.code) self.now.shape → TouchedOne Symbols-as-Alphabet.symbols (C.Code.meaning self.now.code) (plan_in self.now.shape) cue word cells.old memory.old result.changed result.beyond_reach cells.new memory.new }
+        ensures answer { FitStore (C.Code.fit self.now.code) C.Symbols.Alphabet.symbols (C.Code.meaning self.now.code) self.now.shape → TouchedOne C.Symbols.Alphabet.symbols (C.Code.meaning self.now.code) (plan_in self.now.shape) cue word cells.old memory.old result.changed result.beyond_reach cells.new memory.new }
     {
         let length = self.shape.numbers.length;
         let start = self.shape.word_start(cue, word);
@@ -52,7 +52,7 @@ impl<C: Code + Drop> Store<C> {
     /// Mends all words of the cue in their cells, and clears the working memory.
     pub(crate) fn touch_words(&self, cue: usize, cells: &mut [u8], memory: &mut [u8]) -> Touched
         requires { Enough self.now.shape cue (length cells.old) (length memory.old) }
-        ensures { FitStore (C.Code.fit self.now.code) Symbols-as-Alphabet.symbols (C.Code.meaning self.now.code) self.now.shape → TouchedAll Symbols-as-Alphabet.symbols (C.Code.meaning self.now.code) (plan_in self.now.shape) cue cells.old memory.old result.changed result.beyond_reach cells.new memory.new }
+        ensures { FitStore (C.Code.fit self.now.code) C.Symbols.Alphabet.symbols (C.Code.meaning self.now.code) self.now.shape → TouchedAll C.Symbols.Alphabet.symbols (C.Code.meaning self.now.code) (plan_in self.now.shape) cue cells.old memory.old result.changed result.beyond_reach cells.new memory.new }
     {
         let mut changed = 0;
         let mut beyond_reach = 0;
@@ -75,7 +75,7 @@ impl<C: Code + Drop> Store<C> {
         cells: &mut [u8],
         memory: &mut [u8],
     ) -> Result<Touched, StoreRefusal>
-        ensures answer { FitStore (C.Code.fit self.old.code) Symbols-as-Alphabet.symbols (C.Code.meaning self.old.code) self.old.shape → (touch_outcome result, state_in self.new.kept, cells.new, memory.new) ≡ touched_up_cue Symbols-as-Alphabet.symbols (C.Code.meaning self.old.code) (plan_in self.old.shape) cue (state_in self.old.kept) cells.old memory.old }
+        ensures answer { FitStore (C.Code.fit self.old.code) C.Symbols.Alphabet.symbols (C.Code.meaning self.old.code) self.old.shape → (touch_outcome result, state_in self.new.kept, cells.new, memory.new) ≡ touched_up_cue C.Symbols.Alphabet.symbols (C.Code.meaning self.old.code) (plan_in self.old.shape) cue (state_in self.old.kept) cells.old memory.old }
         ensures same { SameStore self.old self.new }
     {
         if cue >= self.shape.cues {

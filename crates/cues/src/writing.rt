@@ -21,7 +21,7 @@ impl<C: Code + Drop> Store<C> {
         memory: &mut [u8],
     ) -> Result<(), StoreRefusal>
         requires { (Enough self.now.shape cue (length cells.old) (length memory.old)) × ((word < self.now.shape.words) × (length levels.now ≤ self.now.shape.levels)) }
-        ensures { FitStore (C.Code.fit self.now.code) Symbols-as-Alphabet.symbols (C.Code.meaning self.now.code) self.now.shape → WroteWord Symbols-as-Alphabet.symbols (C.Code.meaning self.now.code) (plan_in self.now.shape) cue word levels.now cells.old memory.old (store_outcome result) cells.new memory.new }
+        ensures { FitStore (C.Code.fit self.now.code) C.Symbols.Alphabet.symbols (C.Code.meaning self.now.code) self.now.shape → WroteWord C.Symbols.Alphabet.symbols (C.Code.meaning self.now.code) (plan_in self.now.shape) cue word levels.now cells.old memory.old (store_outcome result) cells.new memory.new }
     {
         write_message(&self.shape, levels, word, memory);
         if let Err(fault) = self.code.send(memory) {
@@ -41,7 +41,7 @@ impl<C: Code + Drop> Store<C> {
         memory: &mut [u8],
     ) -> Result<(), StoreRefusal>
         requires { (Enough self.now.shape cue (length cells.old) (length memory.old)) × (length levels.now ≤ self.now.shape.levels) }
-        ensures { FitStore (C.Code.fit self.now.code) Symbols-as-Alphabet.symbols (C.Code.meaning self.now.code) self.now.shape → WroteWords Symbols-as-Alphabet.symbols (C.Code.meaning self.now.code) (plan_in self.now.shape) cue levels.now cells.old memory.old (store_outcome result) cells.new memory.new }
+        ensures { FitStore (C.Code.fit self.now.code) C.Symbols.Alphabet.symbols (C.Code.meaning self.now.code) self.now.shape → WroteWords C.Symbols.Alphabet.symbols (C.Code.meaning self.now.code) (plan_in self.now.shape) cue levels.now cells.old memory.old (store_outcome result) cells.new memory.new }
     {
         for word in 0..self.shape.words {
             self.write_word(cue, word, levels, cells, memory)?;

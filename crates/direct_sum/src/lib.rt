@@ -1,4 +1,6 @@
 // The direct sum of two codes: messages and words follow one another.
+#![tactic(auto)]
+
 ghost use Rattle.std.specs.Prelude.{◌≡◌, ◌+◌, ◌≤◌, min, length, IfOk, nat_lt};
 ghost use Rattle.codes.specs.Refusals.{outcome, making};
 ghost use Rattle.parts.specs.Numbers.{NumbersOf};

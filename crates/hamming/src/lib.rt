@@ -1,4 +1,6 @@
 // The Hamming code of length 7 over two symbols, which mends one wrong place or two marked ones.
+#![tactic(auto)]
+
 ghost use Rattle.std.specs.Prelude.{◌≡◌, ℕ, ◌+◌, ◌%◌, List, [], ◌∷◌, length, Some, None};
 ghost use Rattle.codes.specs.Refusals.{outcome};
 ghost use Rattle.theory.specs.Alphabets.{two};

@@ -1,4 +1,6 @@
 // The hexacode over GF(4), which mends one wrong place, or one and a mark, or three marked ones.
+#![tactic(auto)]
+
 ghost use Rattle.std.specs.Prelude.{◌≡◌, ℕ, List, [], ◌∷◌, length, Some, None};
 ghost use Rattle.codes.specs.Refusals.{outcome};
 ghost use Rattle.theory.specs.Alphabets.{four};

@@ -1,4 +1,6 @@
 // The parity code over any alphabet: the word is the message and then the symbol that makes the sum 0, n from 2 to 64.
+#![tactic(auto)]
+
 ghost use Rattle.std.specs.Prelude.{◌≡◌, ℕ, ◌-◌, ◌≤◌, List, [], ◌∷◌, replicate};
 ghost use Rattle.codes.specs.Refusals.{outcome, making};
 ghost use Rattle.theory.specs.Pairs.{AtDistance};

@@ -17,7 +17,7 @@ pub fn send_part<C: Code>(
     at: usize,
     working: usize,
 ) -> Result<(), Refusal>
-    ensures { C.Code.fit code.now → (outcome result, memory.new) ≡ call_in_part (sent Symbols-as-Alphabet.symbols (C.Code.meaning code.now)) from count at working memory.old }
+    ensures { C.Code.fit code.now → (outcome result, memory.new) ≡ call_in_part (sent C.Symbols.Alphabet.symbols (C.Code.meaning code.now)) from count at working memory.old }
 {
     if !has_range(memory.len(), at, working) {
         return Err(Refusal::ShortMemory);
@@ -35,7 +35,7 @@ pub fn mend_part<C: Code>(
     at: usize,
     working: usize,
 ) -> Result<(), Refusal>
-    ensures { C.Code.fit code.now → (outcome result, memory.new) ≡ call_in_part (mended Symbols-as-Alphabet.symbols (C.Code.meaning code.now)) from count at working memory.old }
+    ensures { C.Code.fit code.now → (outcome result, memory.new) ≡ call_in_part (mended C.Symbols.Alphabet.symbols (C.Code.meaning code.now)) from count at working memory.old }
 {
     if !has_range(memory.len(), at, working) {
         return Err(Refusal::ShortMemory);
@@ -53,7 +53,7 @@ pub fn read_part<C: Code>(
     at: usize,
     working: usize,
 ) -> Result<(), Refusal>
-    ensures { C.Code.fit code.now → (outcome result, memory.new) ≡ call_in_part (read_back Symbols-as-Alphabet.symbols (C.Code.meaning code.now)) from count at working memory.old }
+    ensures { C.Code.fit code.now → (outcome result, memory.new) ≡ call_in_part (read_back C.Symbols.Alphabet.symbols (C.Code.meaning code.now)) from count at working memory.old }
 {
     if !has_range(memory.len(), at, working) {
         return Err(Refusal::ShortMemory);

@@ -1,5 +1,7 @@
 // What joins share: the numbers of their parts, calls of the parts in middle parts of the lent memory, and putting the
 // parts' results together.
+#![tactic(auto)]
+
 pub mod asked;
 pub mod calls;
 pub mod combination;

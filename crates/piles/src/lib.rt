@@ -1,4 +1,6 @@
 // Piles with names: the first-order Reed-Muller codes RM(1,m) over two, and the four-symbol pile.
+#![tactic(auto)]
+
 ghost use Rattle.std.specs.Prelude.{◌≡◌, IfOk};
 ghost use Rattle.codes.specs.Refusals.{making};
 ghost use Rattle.piles.specs.Named.{HasNumbers, meaning1, meaning2, meaning3, meaning4, meaning5, meaning_four, Fit1, Fit2, Fit3, Fit4, Fit5, FitFour};

@@ -1,4 +1,6 @@
 // Plotkin's join of two codes of one length: the word is u and then u + v.
+#![tactic(auto)]
+
 ghost use Rattle.std.specs.Prelude.{◌≡◌, ℕ, ◌+◌, ◌*◌, ◌≤◌, Bool, List, length, IfOk};
 ghost use Rattle.std.proofs.Common.{sym, ◌∙◌, arith};
 ghost use Rattle.codes.specs.Refusals.{outcome, making};
@@ -34,6 +36,7 @@ pub struct Plotkin<U, V> {
     u: Numbers,
     v: Numbers,
     ghost level: { u.length ≡ v.length },
+    ghost near: { u.distance ≤ u.length },
     ghost bounded: { 3 * u.length + u.working + v.working ≤ 4096 },
 }
 
@@ -51,6 +54,10 @@ impl<U: Code + Drop, V: Code<Symbols = U::Symbols> + Drop> Plotkin<U, V> {
         let Some(v) = numbers_of(&right) else {
             return Err(MakingRefusal::WorkingTooLong);
         };
+        // No fit code has words that are further apart than they are long.
+        if u.distance > u.length {
+            return Err(MakingRefusal::WorkingTooLong);
+        }
         if u.length != v.length {
             return Err(MakingRefusal::LengthsDiffer);
         }

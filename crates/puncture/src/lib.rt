@@ -1,4 +1,6 @@
 // Puncturing: the word of a code loses a place.
+#![tactic(auto)]
+
 ghost use Rattle.std.specs.Prelude.{◌≡◌, ◌+◌, ◌-◌, ◌<◌, ◌≤◌, length, IfOk};
 ghost use Rattle.std.specs.List.{remove};
 ghost use Rattle.codes.specs.Refusals.{outcome, making};
@@ -39,7 +41,7 @@ impl<C: Code + Drop> Puncture<C> {
     pub fn new(code: C, place: usize) -> Result<Puncture<C>, MakingRefusal>
         ensures making { C.Code.fit code → making (λ c. puncture c.place (C.Code.meaning c.code)) result ≡ puncture_making place (C.Code.meaning code) }
         ensures fits { C.Code.fit code → IfOk result (λ c. C.Code.fit c.code × NumbersOf c.whole (C.Code.meaning c.code)) }
-        ensures one_step_of_a_pile { C.Code.fit code → (p : Pile) → making_of Symbols-as-Alphabet.symbols p ≡ madeCode (C.Code.meaning code) → making (λ c. puncture c.place (C.Code.meaning c.code)) result ≡ making_of Symbols-as-Alphabet.symbols (puncture_at place p) }
+        ensures one_step_of_a_pile { C.Code.fit code → (p : Pile) → making_of C.Symbols.Alphabet.symbols p ≡ madeCode (C.Code.meaning code) → making (λ c. puncture c.place (C.Code.meaning c.code)) result ≡ making_of C.Symbols.Alphabet.symbols (puncture_at place p) }
         ensures every_pile_keeps_its_meaning { EveryPileKeepsItsMeaning }
     {
         let Some(whole) = numbers_of(&code) else {
@@ -138,7 +140,7 @@ impl<C: Code + Drop> Code for Puncture<C> {
 impl<C: Code + Drop> Puncture<C> {
     /// Writes the word in front behind itself, a mark put in where its place was lost, and mends it there.
     fn mend_with_mark(&self, memory: &mut [u8]) -> Result<(), Refusal>
-        ensures { C.Code.fit self.now.code → (outcome result, memory.new) ≡ call_in_part (mended Symbols-as-Alphabet.symbols (C.Code.meaning self.now.code)) self.now.whole.length self.now.whole.length self.now.whole.length self.now.whole.working (widened memory.old 0 (self.now.whole.length - 1) self.now.place 255 self.now.whole.length) }
+        ensures { C.Code.fit self.now.code → (outcome result, memory.new) ≡ call_in_part (mended C.Symbols.Alphabet.symbols (C.Code.meaning self.now.code)) self.now.whole.length self.now.whole.length self.now.whole.length self.now.whole.working (widened memory.old 0 (self.now.whole.length - 1) self.now.place 255 self.now.whole.length) }
     {
         let n = self.whole.length;
         widen(memory, 0, n - 1, self.place, MARK, n);

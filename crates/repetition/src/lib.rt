@@ -1,4 +1,6 @@
 // The repetition code over any alphabet: the word is n copies of the one symbol of the message, n from 1 to 64.
+#![tactic(auto)]
+
 ghost use Rattle.std.specs.Prelude.{◌≡◌, ℕ, ◌≤◌, List, [], ◌∷◌, length, replicate};
 ghost use Rattle.codes.specs.Refusals.{outcome, making};
 ghost use Rattle.theory.specs.Pairs.{AtDistance};

@@ -1,4 +1,6 @@
 // Shortening: the message of a code loses a place, and the word loses that place's carrier.
+#![tactic(auto)]
+
 ghost use Rattle.std.specs.Prelude.{◌≡◌, ◌+◌, ◌<◌, ◌≤◌, IfOk, Some};
 ghost use Rattle.codes.specs.Refusals.{making};
 ghost use Rattle.parts.specs.Numbers.{NumbersOf};
@@ -35,7 +37,7 @@ impl<C: Code + Drop> Shorten<C> {
     pub fn new(code: C, place: usize) -> Result<Shorten<C>, MakingRefusal>
         ensures making { C.Code.fit code → making (λ c. shorten c.place c.lost (C.Code.meaning c.code)) result ≡ shorten_making place (C.Code.meaning code) }
         ensures fits { C.Code.fit code → IfOk result (λ c. C.Code.fit c.code × NumbersOf c.whole (C.Code.meaning c.code) × ((C.Code.meaning c.code).carrier c.place ≡ Some c.lost)) }
-        ensures one_step_of_a_pile { C.Code.fit code → (p : Pile) → making_of Symbols-as-Alphabet.symbols p ≡ madeCode (C.Code.meaning code) → making (λ c. shorten c.place c.lost (C.Code.meaning c.code)) result ≡ making_of Symbols-as-Alphabet.symbols (shorten_at place p) }
+        ensures one_step_of_a_pile { C.Code.fit code → (p : Pile) → making_of C.Symbols.Alphabet.symbols p ≡ madeCode (C.Code.meaning code) → making (λ c. shorten c.place c.lost (C.Code.meaning c.code)) result ≡ making_of C.Symbols.Alphabet.symbols (shorten_at place p) }
         ensures every_pile_keeps_its_meaning { EveryPileKeepsItsMeaning }
     {
         let Some(whole) = numbers_of(&code) else {

@@ -1,5 +1,7 @@
 // The cue store in the definitions: levels as symbols, the store's calls, runs, the book of a run and what damage costs.
 // What a reader must believe stands in specs/; the functions here carry the theorems about it in their contracts.
+#![tactic(auto)]
+
 ghost use Rattle.std.specs.Prelude.{◌≡◌, length};
 ghost use Rattle.store_theory.specs.Layout.{most_cues, most_levels, most_cells};
 ghost use Rattle.store_theory.specs.LevelCases.{level_cases, LevelExamplesHold};

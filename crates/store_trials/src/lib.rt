@@ -1,4 +1,6 @@
 // Examples of every call of a cue store as tests. The memory that a call is lent is dirty throughout.
+#![tactic(auto)]
+
 ghost use Rattle.std.specs.Prelude.{◌≡◌};
 ghost use Rattle.store_trials.specs.Answers.{number_of};
 

@@ -1,5 +1,7 @@
 // The definitions of codes and the laws about them. What a reader must believe stands in specs/; the functions here
 // carry the theorems about it in their contracts.
+#![tactic(auto)]
+
 ghost use Rattle.std.specs.Prelude.{◌≡◌, length};
 ghost use Rattle.theory.specs.Cases.{cases, WorkedExamplesHold};
 ghost use Rattle.theory.specs.Joins.{most_working_length};

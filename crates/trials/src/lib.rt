@@ -1,4 +1,6 @@
 // Examples of every public call as tests. The memory that a call is lent is dirty throughout.
+#![tactic(auto)]
+
 ghost use Rattle.std.specs.Prelude.{◌≡◌};
 ghost use Rattle.trials.specs.Answers.{number_of};
 

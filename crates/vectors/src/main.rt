@@ -1,5 +1,7 @@
 // Prints words of the hexacode and of the Hamming code, and what Hamming mends. A second program of other make prints
 // the same bytes if both are right.
+#![tactic(auto)]
+
 mod answer;
 mod mends;
 mod shapes;

@@ -10,15 +10,15 @@ use Rattle.hexacode.proofs.word_in_reach.Goals as goal
 pub loop-index-init : goal.loop-index-init
 loop-index-init c long i below = absurd (omega arith)
 
-pub returns-then-toll-below : goal.returns-then-toll-below
-returns-then-toll-below c long =
-    search_finds four four_lawful hexacode hexacode_keeps c.args.received.now long c.loop-index.index c.word-of-word.result (c.word-of-word.ensures ∙ ap (λ (r : List ℕ). hexacode.word (get_or r 0 0 ∷ get_or r 1 0 ∷ get_or r 2 0 ∷ [])) c.message_at.ensures)
-    (omega (arith, ltb-true _ _ (sym c.if-toll-below.ensures), c.damage-between.ensures.errors, c.damage-between.ensures.erasures))
+pub returns-then-toll_below : goal.returns-then-toll_below
+returns-then-toll_below c long =
+    search_finds four four_lawful hexacode hexacode_keeps c.args.received.now long c.loop-index.index c.word_of-word.result (c.word_of-word.ensures ∙ ap (λ (r : List ℕ). hexacode.word (get_or r 0 0 ∷ get_or r 1 0 ∷ get_or r 2 0 ∷ [])) c.message_at.ensures)
+    (omega (arith, ltb-true _ _ (sym c.if-toll_below.ensures), c.damage_between.ensures.errors, c.damage_between.ensures.erasures))
 
 pub loop-index-preserved : goal.loop-index-preserved
 loop-index-preserved c long =
     below_more _ _ (c.loop-index.invariant long)
-    (omega (arith, ltb-false _ _ (sym c.if-toll-below.ensures), c.damage-between.ensures.errors, c.damage-between.ensures.erasures, damage_of four four_lawful hexacode hexacode_keeps c.args.received.now long c.loop-index.index c.word-of-word.result (c.word-of-word.ensures ∙ ap (λ (r : List ℕ). hexacode.word (get_or r 0 0 ∷ get_or r 1 0 ∷ get_or r 2 0 ∷ [])) c.message_at.ensures)))
+    (omega (arith, ltb-false _ _ (sym c.if-toll_below.ensures), c.damage_between.ensures.errors, c.damage_between.ensures.erasures, damage_of four four_lawful hexacode hexacode_keeps c.args.received.now long c.loop-index.index c.word_of-word.result (c.word_of-word.ensures ∙ ap (λ (r : List ℕ). hexacode.word (get_or r 0 0 ∷ get_or r 1 0 ∷ get_or r 2 0 ∷ [])) c.message_at.ensures)))
 
 pub returns : goal.returns
 returns c long =

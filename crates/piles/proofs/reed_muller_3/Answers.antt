@@ -5,15 +5,15 @@ use Rattle.theory.specs.Repetition.{repetition, repetition_making}
 use Rattle.piles.proofs.Numbers.{refused_not_made, numbers_3}
 use Rattle.piles.proofs.reed_muller_3.Goals as goal
 
-pub returns-in-err-new : goal.returns-in-err-new
+pub returns-in_err-new : goal.returns-in_err-new
 unfolding repetition_making
-returns-in-err-new c = absurd (refused_not_made _ (repetition 4) c.in-err-new.ensures)
+returns-in_err-new c = absurd (refused_not_made _ (repetition 4) c.in_err-new.ensures)
 
 pub returns : goal.returns
 unfolding repetition_making
 returns c =
     record {
-      making = c.new-2.ensures.one-step-of-a-pile c.in-ok-reed-muller-2.ensures.fits tt (reed_muller 2) (leaf (repetition 4)) (sym c.in-ok-reed-muller-2.ensures.making) (sym c.in-ok-new.ensures);
+      making = c.new-2.ensures.one_step_of_a_pile c.in_ok-reed_muller_2.ensures.fits tt (reed_muller 2) (leaf (repetition 4)) (sym c.in_ok-reed_muller_2.ensures.making) (sym c.in_ok-new.ensures);
       numbers = numbers_3;
-      fits = c.new-2.ensures.fits c.in-ok-reed-muller-2.ensures.fits tt;
+      fits = c.new-2.ensures.fits c.in_ok-reed_muller_2.ensures.fits tt;
     }

@@ -6,13 +6,13 @@ use Rattle.theory.proofs.Counts.{marked_more, marked_le, wrong_copies_more, wron
 use Rattle.repetition.proofs.copies_damage.Goals as goal
 use Rattle.repetition.proofs.copies_damage.Goals.{then-x-order, else-x-order+then-x-symbol, else-x-order+else-x-symbol}
 
-pub overflow-add-marked : goal.overflow-add-marked
-overflow-add-marked g c =
+pub overflow_add-marked : goal.overflow_add-marked
+overflow_add-marked g c =
     let i = c.loop-x.x-index in
     omega (arith, c.loop-x.invariant.1, marked_le g.S.Alphabet.symbols.q (take i c.args.received.now), length-take i c.args.received.now, c.loop-x-test.true)
 
-pub overflow-add-wrong : goal.overflow-add-wrong
-overflow-add-wrong g c =
+pub overflow_add-wrong : goal.overflow_add-wrong
+overflow_add-wrong g c =
     let i = c.loop-x.x-index in
     omega (arith, c.loop-x.invariant.0, wrong_le g.S.Alphabet.symbols.q (replicate i c.args.symbol) (take i c.args.received.now), length-take i c.args.received.now, c.loop-x-test.true)
 

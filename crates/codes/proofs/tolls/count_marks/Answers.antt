@@ -6,8 +6,8 @@ use Rattle.theory.proofs.Counts.{marked_more, marked_le}
 use Rattle.codes.proofs.tolls.count_marks.Goals as goal
 use Rattle.codes.proofs.tolls.count_marks.Goals.{then-x-order, else-x-order}
 
-pub overflow-add-marks : goal.overflow-add-marks
-overflow-add-marks g c =
+pub overflow_add-marks : goal.overflow_add-marks
+overflow_add-marks g c =
     let q = g.S.Alphabet.symbols.q in
     omega (arith, marked_le q (take c.loop-x.x-index c.args.bytes.now), length-take c.loop-x.x-index c.args.bytes.now, c.loop-x-test.true)
 

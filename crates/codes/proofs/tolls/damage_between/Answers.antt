@@ -5,13 +5,13 @@ use Rattle.theory.proofs.Counts.{marked_more, marked_le, wrong_more, wrong_le, w
 use Rattle.codes.proofs.tolls.damage_between.Goals as goal
 use Rattle.codes.proofs.tolls.damage_between.Goals.{then-received-i, else-received-i+then-received-i-2, else-received-i+else-received-i-2}
 
-pub overflow-add-marked : goal.overflow-add-marked
-overflow-add-marked g c =
+pub overflow_add-marked : goal.overflow_add-marked
+overflow_add-marked g c =
     let i = c.loop-i.i in
     omega (arith, c.loop-i.invariant.1, marked_le g.S.Alphabet.symbols.q (take i c.args.received.now), length-take i c.args.received.now, c.loop-i-test.true)
 
-pub overflow-add-wrong : goal.overflow-add-wrong
-overflow-add-wrong g c =
+pub overflow_add-wrong : goal.overflow_add-wrong
+overflow_add-wrong g c =
     let i = c.loop-i.i in
     omega (arith, c.loop-i.invariant.0, wrong_le g.S.Alphabet.symbols.q (take i c.args.word.now) (take i c.args.received.now), length-take i c.args.received.now, c.loop-i-test.true)
 

@@ -6,7 +6,7 @@ use Rattle.console.proofs.text.parse_list.Goals as goal
 pub loop-word-preserved : goal.loop-word-preserved
 loop-word-preserved c =
     let old = c.loop-word.bytes in
-    let grown = c.in-ok-resize.ensures in
+    let grown = c.in_ok-resize.ensures in
     let run = c.in-Some-parse.run' in
     let len = c.len-len.result in
     let small : len + run.count ≤ 2000000 = omega (arith, c.if-run-len.false, c.len-len.ensures, c.loop-word.invariant.0) in (

@@ -8,44 +8,44 @@ pub returns-then-cues-lt1 : goal.returns-then-cues-lt1
 unfolding making_check
 returns-then-cues-lt1 g c = record { making = λ fit. grind (arith, nat_tests); fits = λ fit. tt; plan = tt }
 
-pub overflow-mul-words : goal.overflow-mul-words
-overflow-mul-words g c =
-    let narrow = width_narrow g.Symbols.Alphabet.symbols g.met.Symbols.Alphabet.lawful in
+pub overflow_mul-words : goal.overflow_mul-words
+overflow_mul-words g c =
+    let narrow = width_narrow g.C.Symbols.Alphabet.symbols g.met.C.Symbols.Alphabet.lawful in
     omega (arith, narrow, few_level_symbols c.args.cues c.args.levels c.width-width.result (omega arith) (omega arith) (omega (arith, narrow)))
 
-pub overflow-add-words : goal.overflow-add-words
-overflow-add-words g c =
-    let narrow = width_narrow g.Symbols.Alphabet.symbols g.met.Symbols.Alphabet.lawful in
+pub overflow_add-words : goal.overflow_add-words
+overflow_add-words g c =
+    let narrow = width_narrow g.C.Symbols.Alphabet.symbols g.met.C.Symbols.Alphabet.lawful in
     omega (arith, narrow, c.in-Some.numbers.message, c.in-Some.numbers.bounded, few_level_symbols c.args.cues c.args.levels c.width-width.result (omega arith) (omega arith) (omega (arith, narrow)))
 
-pub overflow-mul-block : goal.overflow-mul-block
-overflow-mul-block g c =
-    let narrow = width_narrow g.Symbols.Alphabet.symbols g.met.Symbols.Alphabet.lawful in
+pub overflow_mul-block : goal.overflow_mul-block
+overflow_mul-block g c =
+    let narrow = width_narrow g.C.Symbols.Alphabet.symbols g.met.C.Symbols.Alphabet.lawful in
     omega (arith, few_cue_cells c.args.cues c.args.levels c.width-width.result (omega arith) (omega arith) (omega (arith, narrow)) c.in-Some.numbers.length c.in-Some.numbers.dimension (omega (arith, c.in-Some.numbers.word, c.in-Some.numbers.bounded)) (omega (arith, c.in-Some.numbers.message, c.in-Some.numbers.bounded)))
 
-pub overflow-mul-cells : goal.overflow-mul-cells
-overflow-mul-cells g c =
-    let narrow = width_narrow g.Symbols.Alphabet.symbols g.met.Symbols.Alphabet.lawful in
+pub overflow_mul-cells : goal.overflow_mul-cells
+overflow_mul-cells g c =
+    let narrow = width_narrow g.C.Symbols.Alphabet.symbols g.met.C.Symbols.Alphabet.lawful in
     omega (arith, few_cells_lem c.args.cues c.args.levels c.width-width.result (omega arith) (omega arith) (omega (arith, narrow)) c.in-Some.numbers.length c.in-Some.numbers.dimension (omega (arith, c.in-Some.numbers.word, c.in-Some.numbers.bounded)) (omega (arith, c.in-Some.numbers.message, c.in-Some.numbers.bounded)))
 
-pub returns-then-cells-gt-MOST-CELLS : goal.returns-then-cells-gt-MOST-CELLS
-returns-then-cells-gt-MOST-CELLS g c =
+pub returns-then-cells-gt-MOST_CELLS : goal.returns-then-cells-gt-MOST_CELLS
+returns-then-cells-gt-MOST_CELLS g c =
     record {
-      making = λ fit. too_many_cells g.Symbols.Alphabet.symbols (g.C.Code.meaning c.args.code.now) c.args.cues c.args.levels c.width-width.result c.in-Some.numbers (c.in-Some.ensures fit) c.width-width.ensures (omega arith) (omega arith) (omega arith) (omega arith) c.if-cells-gt-MOST-CELLS.true;
+      making = λ fit. too_many_cells g.C.Symbols.Alphabet.symbols (g.C.Code.meaning c.args.code.now) c.args.cues c.args.levels c.width-width.result c.in-Some.numbers (c.in-Some.ensures fit) c.width-width.ensures (omega arith) (omega arith) (omega arith) (omega arith) c.if-cells-gt-MOST_CELLS.true;
       fits = λ fit. tt;
       plan = tt;
     }
 
-pub invariant-of-result : goal.invariant-of-result
-invariant-of-result g c =
-    let laws = g.met.Symbols.Alphabet.lawful in
-    let narrow = width_narrow g.Symbols.Alphabet.symbols laws in
-    let some = width_some g.Symbols.Alphabet.symbols laws in
+pub invariant_of-result : goal.invariant_of-result
+invariant_of-result g c =
+    let laws = g.met.C.Symbols.Alphabet.lawful in
+    let narrow = width_narrow g.C.Symbols.Alphabet.symbols laws in
+    let some = width_some g.C.Symbols.Alphabet.symbols laws in
     (omega arith, (omega (arith, laws.two_symbols, c.order-order.ensures), (omega (arith, laws.few_symbols, c.order-order.ensures), (omega (arith, some), (omega (arith, narrow), (omega arith, (omega arith, (few_words c.args.cues c.args.levels c.width-width.result (omega arith) (omega arith) (omega (arith, narrow)) c.in-Some.numbers.length c.in-Some.numbers.dimension (omega (arith, c.in-Some.numbers.word, c.in-Some.numbers.bounded)) (omega (arith, c.in-Some.numbers.message, c.in-Some.numbers.bounded)), (enough_words_lem c.args.levels c.width-width.result c.in-Some.numbers.dimension (omega arith), (refl, (refl, (omega arith, tt))))))))))))
 
 pub returns : goal.returns
 returns g c =
-    let accepts = λ (fit : g.C.Code.fit c.args.code.now). making_accepted g.Symbols.Alphabet.symbols (g.C.Code.meaning c.args.code.now) c.args.cues c.args.levels c.width-width.result c.in-Some.numbers (c.in-Some.ensures fit) c.width-width.ensures (omega arith) (omega arith) (omega arith) (omega arith) c.if-cells-gt-MOST-CELLS.false in
+    let accepts = λ (fit : g.C.Code.fit c.args.code.now). making_accepted g.C.Symbols.Alphabet.symbols (g.C.Code.meaning c.args.code.now) c.args.cues c.args.levels c.width-width.result c.in-Some.numbers (c.in-Some.ensures fit) c.width-width.ensures (omega arith) (omega arith) (omega arith) (omega arith) c.if-cells-gt-MOST_CELLS.false in
     record {
       making = λ fit. sym (accepts fit);
       fits = λ fit. record {
@@ -53,7 +53,7 @@ returns g c =
         order = c.order-order.ensures;
         width = c.width-width.ensures;
         numbers = c.in-Some.ensures fit;
-        words = words_are g.Symbols.Alphabet.symbols (g.C.Code.meaning c.args.code.now) c.args.cues c.args.levels c.width-width.result c.in-Some.numbers (c.in-Some.ensures fit) c.width-width.ensures;
+        words = words_are g.C.Symbols.Alphabet.symbols (g.C.Code.meaning c.args.code.now) c.args.cues c.args.levels c.width-width.result c.in-Some.numbers (c.in-Some.ensures fit) c.width-width.ensures;
         making = accepts fit;
       };
       plan = refl;

@@ -8,23 +8,23 @@ use Rattle.parts.proofs.Outcomes.{err_refuses, ok_accepts}
 use Rattle.direct_sum.proofs.Sizes.{kept, kept_are}
 use Rattle.direct_sum.proofs.Ways.{reads}
 use Rattle.direct_sum.proofs.DirectSumCode.read.Goals as goal
-use Rattle.direct_sum.proofs.DirectSumCode.read.Goals.{then-is-err-via-then-is-err, then-is-err-via-else-is-err+then-is-err-2}
+use Rattle.direct_sum.proofs.DirectSumCode.read.Goals.{then-is_err-via-then-is_err, then-is_err-via-else-is_err+then-is_err-2}
 
 pub returns-then-memory-end : goal.returns-then-memory-end
 returns-then-memory-end g c fit =
     sym (read_short g.U.Symbols.Alphabet.symbols (direct_sum (g.U.Code.meaning c.args.self.now.left) (g.V.Code.meaning c.args.self.now.right)) c.args.memory.now (omega (arith, c.if-memory-end.true, fit.2.length, fit.2.working, fit.2.dimension, fit.3.length, fit.3.working, fit.3.dimension)))
 
-pub returns-then-is-err : goal.returns-then-is-err
-returns-then-is-err g c fit =
-    let ways = reads g.U.Symbols.Alphabet.symbols g.met.U.Symbols.Alphabet.lawful (g.U.Code.meaning c.args.self.now.left) (g.V.Code.meaning c.args.self.now.right) (g.met.U.Code.keeps c.args.self.now.left fit.0) (g.met.V.Code.keeps c.args.self.now.right fit.1) (kept c.args.self.now.u c.args.self.now.v) (kept_are c.args.self.now.u c.args.self.now.v (g.U.Code.meaning c.args.self.now.left) (g.V.Code.meaning c.args.self.now.right) fit.2 fit.3) (direct_sum_keeps g.U.Symbols.Alphabet.symbols g.met.U.Symbols.Alphabet.lawful (g.U.Code.meaning c.args.self.now.left) (g.V.Code.meaning c.args.self.now.right) (g.met.U.Code.keeps c.args.self.now.left fit.0) (g.met.V.Code.keeps c.args.self.now.right fit.1) (omega (arith, c.args.self.now.bounded, fit.2.length, fit.2.working, fit.2.dimension, fit.3.length, fit.3.working, fit.3.dimension))) c.args.memory.now c.if-memory-end.false (outcome c.read-part-of-right.result) (outcome c.read-part-of-left.result) c.read-part-of-right.new.memory c.read-part-of-left.new.memory (c.read-part-of-right.ensures fit.1) (c.read-part-of-left.ensures fit.0) in
+pub returns-then-is_err : goal.returns-then-is_err
+returns-then-is_err g c fit =
+    let ways = reads g.U.Symbols.Alphabet.symbols g.met.U.Symbols.Alphabet.lawful (g.U.Code.meaning c.args.self.now.left) (g.V.Code.meaning c.args.self.now.right) (g.met.U.Code.keeps c.args.self.now.left fit.0) (g.met.V.Code.keeps c.args.self.now.right fit.1) (kept c.args.self.now.u c.args.self.now.v) (kept_are c.args.self.now.u c.args.self.now.v (g.U.Code.meaning c.args.self.now.left) (g.V.Code.meaning c.args.self.now.right) fit.2 fit.3) (direct_sum_keeps g.U.Symbols.Alphabet.symbols g.met.U.Symbols.Alphabet.lawful (g.U.Code.meaning c.args.self.now.left) (g.V.Code.meaning c.args.self.now.right) (g.met.U.Code.keeps c.args.self.now.left fit.0) (g.met.V.Code.keeps c.args.self.now.right fit.1) (omega (arith, c.args.self.now.bounded, fit.2.length, fit.2.working, fit.2.dimension, fit.3.length, fit.3.working, fit.3.dimension))) c.args.memory.now c.if-memory-end.false (outcome c.read_part-of_right.result) (outcome c.read_part-of_left.result) c.read_part-of_right.new.memory c.read_part-of_left.new.memory (c.read_part-of_right.ensures fit.1) (c.read_part-of_left.ensures fit.0) in
     ap (paired (refused 4 [])) c.clear.ensures
-    ∙ elim c.then-is-err.branch [
-      | then-is-err-via-then-is-err w ↦ ways.by_right (err_refuses c.read-part-of-right.result (sym c.is-err.ensures.value ∙ w.if-is-err.true))
-      | then-is-err-via-else-is-err+then-is-err-2 w ↦ ways.by_left (err_refuses c.read-part-of-left.result (sym w.is-err-else-is-err.ensures.value ∙ w.if-is-err-2.true))
+    ∙ elim c.then-is_err.branch [
+      | then-is_err-via-then-is_err w ↦ ways.by_right (err_refuses c.read_part-of_right.result (sym c.is_err.ensures.value ∙ w.if-is_err.true))
+      | then-is_err-via-else-is_err+then-is_err-2 w ↦ ways.by_left (err_refuses c.read_part-of_left.result (sym w.is_err-else-is_err.ensures.value ∙ w.if-is_err-2.true))
     ]
 
 pub returns : goal.returns
 returns g c fit =
-    let ways = reads g.U.Symbols.Alphabet.symbols g.met.U.Symbols.Alphabet.lawful (g.U.Code.meaning c.args.self.now.left) (g.V.Code.meaning c.args.self.now.right) (g.met.U.Code.keeps c.args.self.now.left fit.0) (g.met.V.Code.keeps c.args.self.now.right fit.1) (kept c.args.self.now.u c.args.self.now.v) (kept_are c.args.self.now.u c.args.self.now.v (g.U.Code.meaning c.args.self.now.left) (g.V.Code.meaning c.args.self.now.right) fit.2 fit.3) (direct_sum_keeps g.U.Symbols.Alphabet.symbols g.met.U.Symbols.Alphabet.lawful (g.U.Code.meaning c.args.self.now.left) (g.V.Code.meaning c.args.self.now.right) (g.met.U.Code.keeps c.args.self.now.left fit.0) (g.met.V.Code.keeps c.args.self.now.right fit.1) (omega (arith, c.args.self.now.bounded, fit.2.length, fit.2.working, fit.2.dimension, fit.3.length, fit.3.working, fit.3.dimension))) c.args.memory.now c.if-memory-end.false (outcome c.read-part-of-right.result) (outcome c.read-part-of-left.result) c.read-part-of-right.new.memory c.read-part-of-left.new.memory (c.read-part-of-right.ensures fit.1) (c.read-part-of-left.ensures fit.0) in
+    let ways = reads g.U.Symbols.Alphabet.symbols g.met.U.Symbols.Alphabet.lawful (g.U.Code.meaning c.args.self.now.left) (g.V.Code.meaning c.args.self.now.right) (g.met.U.Code.keeps c.args.self.now.left fit.0) (g.met.V.Code.keeps c.args.self.now.right fit.1) (kept c.args.self.now.u c.args.self.now.v) (kept_are c.args.self.now.u c.args.self.now.v (g.U.Code.meaning c.args.self.now.left) (g.V.Code.meaning c.args.self.now.right) fit.2 fit.3) (direct_sum_keeps g.U.Symbols.Alphabet.symbols g.met.U.Symbols.Alphabet.lawful (g.U.Code.meaning c.args.self.now.left) (g.V.Code.meaning c.args.self.now.right) (g.met.U.Code.keeps c.args.self.now.left fit.0) (g.met.V.Code.keeps c.args.self.now.right fit.1) (omega (arith, c.args.self.now.bounded, fit.2.length, fit.2.working, fit.2.dimension, fit.3.length, fit.3.working, fit.3.dimension))) c.args.memory.now c.if-memory-end.false (outcome c.read_part-of_right.result) (outcome c.read_part-of_left.result) c.read_part-of_right.new.memory c.read_part-of_left.new.memory (c.read_part-of_right.ensures fit.1) (c.read_part-of_left.ensures fit.0) in
     ap (paired accepted) c.gather.ensures
-    ∙ ways.both (ok_accepts c.read-part-of-right.result (sym c.is-err.ensures.value ∙ c.if-is-err.false)) (ok_accepts c.read-part-of-left.result (sym c.is-err-else-is-err.ensures.value ∙ c.if-is-err-2.false))
+    ∙ ways.both (ok_accepts c.read_part-of_right.result (sym c.is_err.ensures.value ∙ c.if-is_err.false)) (ok_accepts c.read_part-of_left.result (sym c.is_err-else-is_err.ensures.value ∙ c.if-is_err-2.false))

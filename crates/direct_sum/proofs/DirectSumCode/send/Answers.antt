@@ -23,24 +23,24 @@ returns-in-Some g c fit =
     sym (sent_by_lem g.U.Symbols.Alphabet.symbols (direct_sum (g.U.Code.meaning c.args.self.now.left) (g.V.Code.meaning c.args.self.now.right)) c.args.memory.now (omega (arith, c.if-memory-end.false, fit.2.length, fit.2.working, fit.2.dimension, fit.3.length, fit.3.working, fit.3.dimension)) (Some c.in-Some.place)
     (ap (λ (k : ℕ). first_mark q (take k c.args.memory.now)) (sym dimension) ∙ sym (ap (first_mark q) (front_is (c.args.self.now.u.dimension + c.args.self.now.v.dimension) c.args.memory.now)) ∙ mark))
 
-pub returns-in-err-send-part : goal.returns-in-err-send-part
-returns-in-err-send-part g c fit =
+pub returns-in_err-send_part : goal.returns-in_err-send_part
+returns-in_err-send_part g c fit =
     let q = g.U.Symbols.Alphabet.symbols.q in
-    let none = sym (ap (first_mark q) (front_is (c.args.self.now.u.dimension + c.args.self.now.v.dimension) c.args.memory.now)) ∙ sym c.in-default.ensures in
-    let left = call_in_part (sent g.U.Symbols.Alphabet.symbols (g.U.Code.meaning c.args.self.now.left)) 0 c.args.self.now.u.dimension (c.args.self.now.u.length + c.args.self.now.v.length) c.args.self.now.u.working c.send-part.new.memory in
-    let way = sends g.U.Symbols.Alphabet.symbols g.met.U.Symbols.Alphabet.lawful (g.U.Code.meaning c.args.self.now.left) (g.V.Code.meaning c.args.self.now.right) (g.met.U.Code.keeps c.args.self.now.left fit.0) (g.met.V.Code.keeps c.args.self.now.right fit.1) (kept c.args.self.now.u c.args.self.now.v) (kept_are c.args.self.now.u c.args.self.now.v (g.U.Code.meaning c.args.self.now.left) (g.V.Code.meaning c.args.self.now.right) fit.2 fit.3) c.args.memory.now c.if-memory-end.false none (outcome c.send-part.result) left.0 c.send-part.new.memory left.1 (c.send-part.ensures fit.1) refl in
-    absurd (err_is_refused c.send-part.result c.in-err-send-part.field-0.0 c.in-err-send-part.was way.0)
+    let none = sym (ap (first_mark q) (front_is (c.args.self.now.u.dimension + c.args.self.now.v.dimension) c.args.memory.now)) ∙ sym c.in_default.ensures in
+    let left = call_in_part (sent g.U.Symbols.Alphabet.symbols (g.U.Code.meaning c.args.self.now.left)) 0 c.args.self.now.u.dimension (c.args.self.now.u.length + c.args.self.now.v.length) c.args.self.now.u.working c.send_part.new.memory in
+    let way = sends g.U.Symbols.Alphabet.symbols g.met.U.Symbols.Alphabet.lawful (g.U.Code.meaning c.args.self.now.left) (g.V.Code.meaning c.args.self.now.right) (g.met.U.Code.keeps c.args.self.now.left fit.0) (g.met.V.Code.keeps c.args.self.now.right fit.1) (kept c.args.self.now.u c.args.self.now.v) (kept_are c.args.self.now.u c.args.self.now.v (g.U.Code.meaning c.args.self.now.left) (g.V.Code.meaning c.args.self.now.right) fit.2 fit.3) c.args.memory.now c.if-memory-end.false none (outcome c.send_part.result) left.0 c.send_part.new.memory left.1 (c.send_part.ensures fit.1) refl in
+    absurd (err_is_refused c.send_part.result c.in_err-send_part.field-0.0 c.in_err-send_part.was way.0)
 
-pub returns-in-err-send-part-2 : goal.returns-in-err-send-part-2
-returns-in-err-send-part-2 g c fit =
+pub returns-in_err-send_part-2 : goal.returns-in_err-send_part-2
+returns-in_err-send_part-2 g c fit =
     let q = g.U.Symbols.Alphabet.symbols.q in
-    let none = sym (ap (first_mark q) (front_is (c.args.self.now.u.dimension + c.args.self.now.v.dimension) c.args.memory.now)) ∙ sym c.in-default.ensures in
-    let way = sends g.U.Symbols.Alphabet.symbols g.met.U.Symbols.Alphabet.lawful (g.U.Code.meaning c.args.self.now.left) (g.V.Code.meaning c.args.self.now.right) (g.met.U.Code.keeps c.args.self.now.left fit.0) (g.met.V.Code.keeps c.args.self.now.right fit.1) (kept c.args.self.now.u c.args.self.now.v) (kept_are c.args.self.now.u c.args.self.now.v (g.U.Code.meaning c.args.self.now.left) (g.V.Code.meaning c.args.self.now.right) fit.2 fit.3) c.args.memory.now c.if-memory-end.false none (outcome c.send-part.result) (outcome c.send-part-2.result) c.send-part.new.memory c.send-part-2.new.memory (c.send-part.ensures fit.1) (c.send-part-2.ensures fit.0) in
-    absurd (err_is_refused c.send-part-2.result c.in-err-send-part-2.field-0.0 c.in-err-send-part-2.was way.1)
+    let none = sym (ap (first_mark q) (front_is (c.args.self.now.u.dimension + c.args.self.now.v.dimension) c.args.memory.now)) ∙ sym c.in_default.ensures in
+    let way = sends g.U.Symbols.Alphabet.symbols g.met.U.Symbols.Alphabet.lawful (g.U.Code.meaning c.args.self.now.left) (g.V.Code.meaning c.args.self.now.right) (g.met.U.Code.keeps c.args.self.now.left fit.0) (g.met.V.Code.keeps c.args.self.now.right fit.1) (kept c.args.self.now.u c.args.self.now.v) (kept_are c.args.self.now.u c.args.self.now.v (g.U.Code.meaning c.args.self.now.left) (g.V.Code.meaning c.args.self.now.right) fit.2 fit.3) c.args.memory.now c.if-memory-end.false none (outcome c.send_part.result) (outcome c.send_part-2.result) c.send_part.new.memory c.send_part-2.new.memory (c.send_part.ensures fit.1) (c.send_part-2.ensures fit.0) in
+    absurd (err_is_refused c.send_part-2.result c.in_err-send_part-2.field-0.0 c.in_err-send_part-2.was way.1)
 
 pub returns : goal.returns
 returns g c fit =
     let q = g.U.Symbols.Alphabet.symbols.q in
-    let none = sym (ap (first_mark q) (front_is (c.args.self.now.u.dimension + c.args.self.now.v.dimension) c.args.memory.now)) ∙ sym c.in-default.ensures in
-    let way = sends g.U.Symbols.Alphabet.symbols g.met.U.Symbols.Alphabet.lawful (g.U.Code.meaning c.args.self.now.left) (g.V.Code.meaning c.args.self.now.right) (g.met.U.Code.keeps c.args.self.now.left fit.0) (g.met.V.Code.keeps c.args.self.now.right fit.1) (kept c.args.self.now.u c.args.self.now.v) (kept_are c.args.self.now.u c.args.self.now.v (g.U.Code.meaning c.args.self.now.left) (g.V.Code.meaning c.args.self.now.right) fit.2 fit.3) c.args.memory.now c.if-memory-end.false none (outcome c.send-part.result) (outcome c.send-part-2.result) c.send-part.new.memory c.send-part-2.new.memory (c.send-part.ensures fit.1) (c.send-part-2.ensures fit.0) in
+    let none = sym (ap (first_mark q) (front_is (c.args.self.now.u.dimension + c.args.self.now.v.dimension) c.args.memory.now)) ∙ sym c.in_default.ensures in
+    let way = sends g.U.Symbols.Alphabet.symbols g.met.U.Symbols.Alphabet.lawful (g.U.Code.meaning c.args.self.now.left) (g.V.Code.meaning c.args.self.now.right) (g.met.U.Code.keeps c.args.self.now.left fit.0) (g.met.V.Code.keeps c.args.self.now.right fit.1) (kept c.args.self.now.u c.args.self.now.v) (kept_are c.args.self.now.u c.args.self.now.v (g.U.Code.meaning c.args.self.now.left) (g.V.Code.meaning c.args.self.now.right) fit.2 fit.3) c.args.memory.now c.if-memory-end.false none (outcome c.send_part.result) (outcome c.send_part-2.result) c.send_part.new.memory c.send_part-2.new.memory (c.send_part.ensures fit.1) (c.send_part-2.ensures fit.0) in
     ap (paired accepted) c.gather.ensures ∙ way.2

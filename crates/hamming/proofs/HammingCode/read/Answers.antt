@@ -12,13 +12,13 @@ use Rattle.hamming.proofs.HammingCode.read.Goals as goal
 pub returns-then-memory-lt-LENGTH : goal.returns-then-memory-lt-LENGTH
 returns-then-memory-lt-LENGTH c fit = sym (read_short two hamming c.args.memory.now c.if-memory-lt-LENGTH.true)
 
-pub returns-then-not-toll-below : goal.returns-then-not-toll-below
-returns-then-not-toll-below c fit =
-    read_other two 7 4 3 hamming_checks hamming_keeps c.args.memory.now c.if-memory-lt-LENGTH.false c.word-of-word.result (c.word-of-word.ensures ∙ ap (λ (s : List ℕ). hamming.word s) (first_places 4 c.args.memory.now (omega arith))) (ap length c.word-of-word.ensures)
-    (omega (arith, ltb-false _ _ (sym c.if-not-toll-below.ensures), c.damage-between.ensures.errors, c.damage-between.ensures.erasures))
+pub returns-then-not-toll_below : goal.returns-then-not-toll_below
+returns-then-not-toll_below c fit =
+    read_other two 7 4 3 hamming_checks hamming_keeps c.args.memory.now c.if-memory-lt-LENGTH.false c.word_of-word.result (c.word_of-word.ensures ∙ ap (λ (s : List ℕ). hamming.word s) (first_places 4 c.args.memory.now (omega arith))) (ap length c.word_of-word.ensures)
+    (omega (arith, ltb-false _ _ (sym c.if-not-toll_below.ensures), c.damage_between.ensures.errors, c.damage_between.ensures.erasures))
 
 pub returns : goal.returns
 returns c fit =
     ap (λ (ys : List ℕ). (accepted, ys)) c.clear.ensures
-    ∙ read_message two 7 4 3 hamming_checks hamming_keeps c.args.memory.now c.if-memory-lt-LENGTH.false c.word-of-word.result (c.word-of-word.ensures ∙ ap (λ (s : List ℕ). hamming.word s) (first_places 4 c.args.memory.now (omega arith))) (ap length c.word-of-word.ensures)
-    (omega (arith, ltb-true _ _ (sym c.if-not-toll-below.ensures), c.damage-between.ensures.errors, c.damage-between.ensures.erasures))
+    ∙ read_message two 7 4 3 hamming_checks hamming_keeps c.args.memory.now c.if-memory-lt-LENGTH.false c.word_of-word.result (c.word_of-word.ensures ∙ ap (λ (s : List ℕ). hamming.word s) (first_places 4 c.args.memory.now (omega arith))) (ap length c.word_of-word.ensures)
+    (omega (arith, ltb-true _ _ (sym c.if-not-toll_below.ensures), c.damage_between.ensures.errors, c.damage_between.ensures.erasures))

@@ -15,5 +15,5 @@ returns-in-Some c fit = send_mark four 6 3 4 hexacode_checks hexacode_keeps c.ar
 
 pub returns : goal.returns
 returns c fit =
-    send_word four 6 3 4 hexacode_checks hexacode_keeps c.args.memory.now c.if-memory-lt-LENGTH.false (sym c.in-default.ensures) c.copy-from-slice.new.self
-    (c.copy-from-slice.ensures.after ∙ c.word-of-word.ensures ∙ ap (λ (s : List ℕ). hexacode.word s) (first_places 3 c.args.memory.now (omega arith)))
+    send_word four 6 3 4 hexacode_checks hexacode_keeps c.args.memory.now c.if-memory-lt-LENGTH.false (sym c.in_default.ensures) c.copy_from_slice.new.self
+    (c.copy_from_slice.ensures.after ∙ c.word_of-word.ensures ∙ ap (λ (s : List ℕ). hexacode.word s) (first_places 3 c.args.memory.now (omega arith)))

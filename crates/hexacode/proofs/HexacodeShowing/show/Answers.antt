@@ -10,7 +10,7 @@ pub returns-then-memory : goal.returns-then-memory
 returns-then-memory c =
     record {
       answer = λ fit. sym (shown_short hexacode (0 ∷ 0 ∷ 0 ∷ []) (1 ∷ 0 ∷ 0 ∷ []) c.args.memory.now c.if-memory.true);
-      at-distance = λ fit. hexacode_shows;
+      at_distance = λ fit. hexacode_shows;
     }
 
 pub returns : goal.returns
@@ -20,5 +20,5 @@ returns c =
           ap (λ (ys : List ℕ). (accepted, set ys 3 1)) c.clear.ensures
           ∙ ap (λ (ys : List ℕ). (accepted, ys)) (settled_one 12 3 2 c.args.memory.now (lit≤ tt) c.if-memory.false)
           ∙ sym (shown_pair hexacode (0 ∷ 0 ∷ 0 ∷ []) (1 ∷ 0 ∷ 0 ∷ []) c.args.memory.now c.if-memory.false);
-      at-distance = λ fit. hexacode_shows;
+      at_distance = λ fit. hexacode_shows;
     }

@@ -11,15 +11,15 @@ returns-then-memory-self g c fit = sym (mended_short g.S.Alphabet.symbols (parit
 
 pub returns-then-sum-eq0 : goal.returns-then-sum-eq0
 returns-then-sum-eq0 g c fit =
-    mend_balanced g.S.Alphabet.symbols g.met.S.Alphabet.lawful c.args.self.now.n c.args.self.now.least c.args.self.now.most c.args.memory.now c.if-memory-self.false (sym c.in-default.ensures) (sym c.sum-of-unmarked-sum.ensures ∙ c.if-sum-eq0.true)
+    mend_balanced g.S.Alphabet.symbols g.met.S.Alphabet.lawful c.args.self.now.n c.args.self.now.least c.args.self.now.most c.args.memory.now c.if-memory-self.false (sym c.in_default.ensures) (sym c.sum_of_unmarked-sum.ensures ∙ c.if-sum-eq0.true)
 
 pub returns-else-sum-eq0 : goal.returns-else-sum-eq0
 returns-else-sum-eq0 g c fit =
-    mend_unbalanced g.S.Alphabet.symbols g.met.S.Alphabet.lawful c.args.self.now.n c.args.self.now.least c.args.self.now.most c.args.memory.now c.if-memory-self.false (sym c.in-default.ensures) (λ z. c.if-sum-eq0.false (c.sum-of-unmarked-sum.ensures ∙ z))
+    mend_unbalanced g.S.Alphabet.symbols g.met.S.Alphabet.lawful c.args.self.now.n c.args.self.now.least c.args.self.now.most c.args.memory.now c.if-memory-self.false (sym c.in_default.ensures) (λ z. c.if-sum-eq0.false (c.sum_of_unmarked-sum.ensures ∙ z))
 
-pub returns-then-count-marks-ne1 : goal.returns-then-count-marks-ne1
-returns-then-count-marks-ne1 g c fit =
-    mend_many g.S.Alphabet.symbols g.met.S.Alphabet.lawful c.args.self.now.n c.args.self.now.least c.args.self.now.most c.args.memory.now c.if-memory-self.false c.in-Some.place (sym c.in-Some.ensures) (λ one. c.if-count-marks-ne1.true (c.count-marks.ensures ∙ one))
+pub returns-then-count_marks-ne1 : goal.returns-then-count_marks-ne1
+returns-then-count_marks-ne1 g c fit =
+    mend_many g.S.Alphabet.symbols g.met.S.Alphabet.lawful c.args.self.now.n c.args.self.now.least c.args.self.now.most c.args.memory.now c.if-memory-self.false c.in-Some.place (sym c.in-Some.ensures) (λ one. c.if-count_marks-ne1.true (c.count_marks.ensures ∙ one))
 
 pub bounds-memory-place : goal.bounds-memory-place
 bounds-memory-place g c =
@@ -28,5 +28,5 @@ bounds-memory-place g c =
 
 pub returns : goal.returns
 returns g c fit =
-    ap (λ (v : ℕ). (accepted, set c.args.memory.now c.in-Some.place v)) (c.negate.ensures ∙ ap (minus g.S.Alphabet.symbols) c.sum-of-unmarked-sum.ensures)
-    ∙ mend_one g.S.Alphabet.symbols g.met.S.Alphabet.lawful c.args.self.now.n c.args.self.now.least c.args.self.now.most c.args.memory.now c.if-memory-self.false c.in-Some.place (sym c.in-Some.ensures) (sym c.count-marks.ensures ∙ c.if-count-marks-ne1.false)
+    ap (λ (v : ℕ). (accepted, set c.args.memory.now c.in-Some.place v)) (c.negate.ensures ∙ ap (minus g.S.Alphabet.symbols) c.sum_of_unmarked-sum.ensures)
+    ∙ mend_one g.S.Alphabet.symbols g.met.S.Alphabet.lawful c.args.self.now.n c.args.self.now.least c.args.self.now.most c.args.memory.now c.if-memory-self.false c.in-Some.place (sym c.in-Some.ensures) (sym c.count_marks.ensures ∙ c.if-count_marks-ne1.false)

@@ -15,5 +15,5 @@ returns-in-Some g c fit =
 
 pub returns : goal.returns
 returns g c fit =
-    ap (λ (v : ℕ). (accepted, set c.args.memory.now (c.args.self.now.n - 1) v)) (c.negate.ensures ∙ ap (minus g.S.Alphabet.symbols) c.sum-of-unmarked.ensures)
-    ∙ send_word g.S.Alphabet.symbols g.met.S.Alphabet.lawful c.args.self.now.n c.args.self.now.least c.args.self.now.most c.args.memory.now c.if-memory-self.false (sym c.in-default.ensures)
+    ap (λ (v : ℕ). (accepted, set c.args.memory.now (c.args.self.now.n - 1) v)) (c.negate.ensures ∙ ap (minus g.S.Alphabet.symbols) c.sum_of_unmarked.ensures)
+    ∙ send_word g.S.Alphabet.symbols g.met.S.Alphabet.lawful c.args.self.now.n c.args.self.now.least c.args.self.now.most c.args.memory.now c.if-memory-self.false (sym c.in_default.ensures)

@@ -11,7 +11,7 @@ returns-then-memory-both g c =
     let n = c.args.self.now.n in
     record {
       answer = λ fit. sym (shown_short (parity g.S.Alphabet.symbols n) (replicate (n - 1) 0) (1 ∷ replicate (n - 2) 0) c.args.memory.now c.if-memory-both.true);
-      at-distance = λ fit. parity_shows g.S.Alphabet.symbols g.met.S.Alphabet.lawful n c.args.self.now.least;
+      at_distance = λ fit. parity_shows g.S.Alphabet.symbols g.met.S.Alphabet.lawful n c.args.self.now.least;
     }
 
 pub returns : goal.returns
@@ -23,5 +23,5 @@ returns g c =
           ap (λ (ys : List ℕ). (accepted, set ys (n - 1) 1)) c.clear.ensures
           ∙ ap (λ (ys : List ℕ). (accepted, ys)) (settled_one (2 * n) (n - 1) (n - 2) xs (omega (arith, c.args.self.now.least)) c.if-memory-both.false)
           ∙ sym (shown_pair (parity g.S.Alphabet.symbols n) (replicate (n - 1) 0) (1 ∷ replicate (n - 2) 0) xs c.if-memory-both.false);
-      at-distance = λ fit. parity_shows g.S.Alphabet.symbols g.met.S.Alphabet.lawful n c.args.self.now.least;
+      at_distance = λ fit. parity_shows g.S.Alphabet.symbols g.met.S.Alphabet.lawful n c.args.self.now.least;
     }

@@ -4,10 +4,10 @@ use Rattle.theory.proofs.Parts.{part_missing, part_called}
 use Rattle.codes.specs.Refusals.{outcome}
 use Rattle.parts.proofs.calls.send_part.Goals as goal
 
-pub returns-then-not-has-range : goal.returns-then-not-has-range
-returns-then-not-has-range g c fit =
-    part_missing (sent g.Symbols.Alphabet.symbols (g.C.Code.meaning c.args.code.now)) c.args.from c.args.count c.args.at c.args.working c.args.memory.now (sym c.if-not-has-range.ensures)
+pub returns-then-not-has_range : goal.returns-then-not-has_range
+returns-then-not-has_range g c fit =
+    part_missing (sent g.C.Symbols.Alphabet.symbols (g.C.Code.meaning c.args.code.now)) c.args.from c.args.count c.args.at c.args.working c.args.memory.now (sym c.if-not-has_range.ensures)
 
 pub returns : goal.returns
 returns g c fit =
-    part_called (sent g.Symbols.Alphabet.symbols (g.C.Code.meaning c.args.code.now)) c.args.from c.args.count c.args.at c.args.working c.args.memory.now (sym c.if-not-has-range.ensures) c.move-within.new.memory (omega (arith, c.move-within.auto.memory)) c.move-within.ensures (outcome c.send.result) c.send.new.memory (omega (arith, c.send.auto.memory)) (c.send.ensures fit)
+    part_called (sent g.C.Symbols.Alphabet.symbols (g.C.Code.meaning c.args.code.now)) c.args.from c.args.count c.args.at c.args.working c.args.memory.now (sym c.if-not-has_range.ensures) c.move_within.new.memory (omega (arith, c.move_within.auto.memory)) c.move_within.ensures (outcome c.send.result) c.send.new.memory (omega (arith, c.send.auto.memory)) (c.send.ensures fit)

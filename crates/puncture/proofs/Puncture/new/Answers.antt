@@ -5,12 +5,12 @@ use Rattle.theory.proofs.GapMakings.{puncture_no_place, puncture_too_near, punct
 use Rattle.theory.proofs.Piles.{every_pile_keeps_its_meaning}
 use Rattle.puncture.proofs.Puncture.new.Goals as goal
 
-pub returns-in-default : goal.returns-in-default
-returns-in-default g c =
+pub returns-in_default : goal.returns-in_default
+returns-in_default g c =
     record {
-      making = λ fit. absurd (c.in-default.ensures fit);
+      making = λ fit. absurd (c.in_default.ensures fit);
       fits = λ fit. tt;
-      one-step-of-a-pile = λ fit p e. absurd (c.in-default.ensures fit);
+      one_step_of_a_pile = λ fit p e. absurd (c.in_default.ensures fit);
       every_pile_keeps_its_meaning = every_pile_keeps_its_meaning;
     }
 
@@ -21,7 +21,7 @@ returns-then-place-whole g c =
     record {
       making = answer;
       fits = λ fit. tt;
-      one-step-of-a-pile = λ fit p e. puncture_on_pile g.Symbols.Alphabet.symbols m p e c.args.place (refused_making 7) (answer fit);
+      one_step_of_a_pile = λ fit p e. puncture_on_pile g.C.Symbols.Alphabet.symbols m p e c.args.place (refused_making 7) (answer fit);
       every_pile_keeps_its_meaning = every_pile_keeps_its_meaning;
     }
 
@@ -34,20 +34,20 @@ returns-then-whole-lt2 g c =
     record {
       making = answer;
       fits = λ fit. tt;
-      one-step-of-a-pile = λ fit p e. puncture_on_pile g.Symbols.Alphabet.symbols m p e c.args.place (refused_making 8) (answer fit);
+      one_step_of_a_pile = λ fit p e. puncture_on_pile g.C.Symbols.Alphabet.symbols m p e c.args.place (refused_making 8) (answer fit);
       every_pile_keeps_its_meaning = every_pile_keeps_its_meaning;
     }
 
-pub returns-then-whole-gt-MOST-WORKING : goal.returns-then-whole-gt-MOST-WORKING
-returns-then-whole-gt-MOST-WORKING g c =
+pub returns-then-whole-gt-MOST_WORKING : goal.returns-then-whole-gt-MOST_WORKING
+returns-then-whole-gt-MOST_WORKING g c =
     let m = g.C.Code.meaning c.args.code in
     let answer = λ (fit : g.C.Code.fit c.args.code).
     let numbers = c.in-Some.ensures fit in
-    puncture_too_long c.args.place m (omega (arith, c.if-place-whole.false, numbers.length)) (omega (arith, c.if-whole-lt2.false, numbers.distance)) (omega (arith, c.if-whole-gt-MOST-WORKING.true, numbers.length, numbers.working)) in
+    puncture_too_long c.args.place m (omega (arith, c.if-place-whole.false, numbers.length)) (omega (arith, c.if-whole-lt2.false, numbers.distance)) (omega (arith, c.if-whole-gt-MOST_WORKING.true, numbers.length, numbers.working)) in
     record {
       making = answer;
       fits = λ fit. tt;
-      one-step-of-a-pile = λ fit p e. puncture_on_pile g.Symbols.Alphabet.symbols m p e c.args.place (refused_making 6) (answer fit);
+      one_step_of_a_pile = λ fit p e. puncture_on_pile g.C.Symbols.Alphabet.symbols m p e c.args.place (refused_making 6) (answer fit);
       every_pile_keeps_its_meaning = every_pile_keeps_its_meaning;
     }
 
@@ -56,10 +56,10 @@ returns g c =
     let m = g.C.Code.meaning c.args.code in
     let answer = λ (fit : g.C.Code.fit c.args.code).
     let numbers = c.in-Some.ensures fit in
-    puncture_made c.args.place m (omega (arith, c.if-place-whole.false, numbers.length)) (omega (arith, c.if-whole-lt2.false, numbers.distance)) (omega (arith, c.if-whole-gt-MOST-WORKING.false, numbers.length, numbers.working)) in
+    puncture_made c.args.place m (omega (arith, c.if-place-whole.false, numbers.length)) (omega (arith, c.if-whole-lt2.false, numbers.distance)) (omega (arith, c.if-whole-gt-MOST_WORKING.false, numbers.length, numbers.working)) in
     record {
       making = answer;
       fits = λ fit. (fit, c.in-Some.ensures fit);
-      one-step-of-a-pile = λ fit p e. puncture_on_pile g.Symbols.Alphabet.symbols m p e c.args.place (made (puncture c.args.place m)) (answer fit);
+      one_step_of_a_pile = λ fit p e. puncture_on_pile g.C.Symbols.Alphabet.symbols m p e c.args.place (made (puncture c.args.place m)) (answer fit);
       every_pile_keeps_its_meaning = every_pile_keeps_its_meaning;
     }

@@ -11,14 +11,14 @@ pub returns-then-memory-end : goal.returns-then-memory-end
 returns-then-memory-end g c fit =
     sym (mended_short g.C.Symbols.Alphabet.symbols (puncture c.args.self.now.place (g.C.Code.meaning c.args.self.now.code)) c.args.memory.now (omega (arith, c.if-memory-end.true, fit.1.length, fit.1.working)))
 
-pub returns-then-is-err : goal.returns-then-is-err
-returns-then-is-err g c fit =
-    let ways = mends g.C.Symbols.Alphabet.symbols g.met.C.Symbols.Alphabet.lawful (g.C.Code.meaning c.args.self.now.code) (g.met.C.Code.keeps c.args.self.now.code fit.0) c.args.self.now.place c.args.self.now.whole fit.1 c.args.self.now.within c.args.self.now.apart c.args.self.now.bounded c.args.memory.now c.if-memory-end.false (outcome c.mend-with-mark.result) c.mend-with-mark.new.memory (c.mend-with-mark.ensures fit.0) in
+pub returns-then-is_err : goal.returns-then-is_err
+returns-then-is_err g c fit =
+    let ways = mends g.C.Symbols.Alphabet.symbols g.met.C.Symbols.Alphabet.lawful (g.C.Code.meaning c.args.self.now.code) (g.met.C.Code.keeps c.args.self.now.code fit.0) c.args.self.now.place c.args.self.now.whole fit.1 c.args.self.now.within c.args.self.now.apart c.args.self.now.bounded c.args.memory.now c.if-memory-end.false (outcome c.mend_with_mark.result) c.mend_with_mark.new.memory (c.mend_with_mark.ensures fit.0) in
     ap (paired (refused 3 [])) c.clear.ensures
-    ∙ ways.none (err_refuses c.mend-with-mark.result (sym c.is-err.ensures.value ∙ c.if-is-err.true))
+    ∙ ways.none (err_refuses c.mend_with_mark.result (sym c.is_err.ensures.value ∙ c.if-is_err.true))
 
 pub returns : goal.returns
 returns g c fit =
-    let ways = mends g.C.Symbols.Alphabet.symbols g.met.C.Symbols.Alphabet.lawful (g.C.Code.meaning c.args.self.now.code) (g.met.C.Code.keeps c.args.self.now.code fit.0) c.args.self.now.place c.args.self.now.whole fit.1 c.args.self.now.within c.args.self.now.apart c.args.self.now.bounded c.args.memory.now c.if-memory-end.false (outcome c.mend-with-mark.result) c.mend-with-mark.new.memory (c.mend-with-mark.ensures fit.0) in
-    ap (paired accepted) c.narrow-to-front.ensures
-    ∙ ways.found (ok_accepts c.mend-with-mark.result (sym c.is-err.ensures.value ∙ c.if-is-err.false))
+    let ways = mends g.C.Symbols.Alphabet.symbols g.met.C.Symbols.Alphabet.lawful (g.C.Code.meaning c.args.self.now.code) (g.met.C.Code.keeps c.args.self.now.code fit.0) c.args.self.now.place c.args.self.now.whole fit.1 c.args.self.now.within c.args.self.now.apart c.args.self.now.bounded c.args.memory.now c.if-memory-end.false (outcome c.mend_with_mark.result) c.mend_with_mark.new.memory (c.mend_with_mark.ensures fit.0) in
+    ap (paired accepted) c.narrow_to_front.ensures
+    ∙ ways.found (ok_accepts c.mend_with_mark.result (sym c.is_err.ensures.value ∙ c.if-is_err.false))

@@ -8,9 +8,9 @@ pub returns-then-memory-self : goal.returns-then-memory-self
 returns-then-memory-self g c fit =
     sym (mended_short g.S.Alphabet.symbols (repetition c.args.self.now.n) c.args.memory.now c.if-memory-self.true)
 
-pub returns-in-default : goal.returns-in-default
-returns-in-default g c fit =
-    mend_none g.S.Alphabet.symbols c.args.self.now.n c.args.self.now.least c.args.self.now.most c.args.memory.now c.if-memory-self.false c.in-default.ensures
+pub returns-in_default : goal.returns-in_default
+returns-in_default g c fit =
+    mend_none g.S.Alphabet.symbols c.args.self.now.n c.args.self.now.least c.args.self.now.most c.args.memory.now c.if-memory-self.false c.in_default.ensures
 
 pub returns : goal.returns
 returns g c fit =

@@ -10,7 +10,7 @@ pub returns-then-memory-both : goal.returns-then-memory-both
 returns-then-memory-both g c =
     record {
       answer = λ fit. sym (shown_short (repetition c.args.self.now.n) (0 ∷ []) (1 ∷ []) c.args.memory.now c.if-memory-both.true);
-      at-distance = λ fit. repetition_shows g.S.Alphabet.symbols c.args.self.now.n g.met.S.Alphabet.lawful.two_symbols;
+      at_distance = λ fit. repetition_shows g.S.Alphabet.symbols c.args.self.now.n g.met.S.Alphabet.lawful.two_symbols;
     }
 
 pub returns : goal.returns
@@ -22,5 +22,5 @@ returns g c =
           ap (λ (ys : List ℕ). (accepted, set ys 1 1)) c.clear.ensures
           ∙ ap (λ (ys : List ℕ). (accepted, ys)) (settled_one (2 * n) 1 0 xs (omega (arith, c.args.self.now.least)) c.if-memory-both.false)
           ∙ sym (shown_pair (repetition n) (0 ∷ []) (1 ∷ []) xs c.if-memory-both.false);
-      at-distance = λ fit. repetition_shows g.S.Alphabet.symbols n g.met.S.Alphabet.lawful.two_symbols;
+      at_distance = λ fit. repetition_shows g.S.Alphabet.symbols n g.met.S.Alphabet.lawful.two_symbols;
     }

@@ -5,12 +5,12 @@ use Rattle.theory.proofs.GapMakings.{shorten_no_place, shorten_too_small, shorte
 use Rattle.theory.proofs.Piles.{every_pile_keeps_its_meaning}
 use Rattle.shorten.proofs.Shorten.new.Goals as goal
 
-pub returns-in-default : goal.returns-in-default
-returns-in-default g c =
+pub returns-in_default : goal.returns-in_default
+returns-in_default g c =
     record {
-      making = λ fit. absurd (c.in-default.ensures fit);
+      making = λ fit. absurd (c.in_default.ensures fit);
       fits = λ fit. tt;
-      one-step-of-a-pile = λ fit p e. absurd (c.in-default.ensures fit);
+      one_step_of_a_pile = λ fit p e. absurd (c.in_default.ensures fit);
       every_pile_keeps_its_meaning = every_pile_keeps_its_meaning;
     }
 
@@ -23,7 +23,7 @@ returns-then-place-whole g c =
     record {
       making = answer;
       fits = λ fit. tt;
-      one-step-of-a-pile = λ fit p e. shorten_on_pile g.Symbols.Alphabet.symbols m p e c.args.place (refused_making 7) (answer fit);
+      one_step_of_a_pile = λ fit p e. shorten_on_pile g.C.Symbols.Alphabet.symbols m p e c.args.place (refused_making 7) (answer fit);
       every_pile_keeps_its_meaning = every_pile_keeps_its_meaning;
     }
 
@@ -36,20 +36,20 @@ returns-then-whole-lt2 g c =
     record {
       making = answer;
       fits = λ fit. tt;
-      one-step-of-a-pile = λ fit p e. shorten_on_pile g.Symbols.Alphabet.symbols m p e c.args.place (refused_making 9) (answer fit);
+      one_step_of_a_pile = λ fit p e. shorten_on_pile g.C.Symbols.Alphabet.symbols m p e c.args.place (refused_making 9) (answer fit);
       every_pile_keeps_its_meaning = every_pile_keeps_its_meaning;
     }
 
-pub returns-in-default-carrier : goal.returns-in-default-carrier
-returns-in-default-carrier g c =
+pub returns-in_default-carrier : goal.returns-in_default-carrier
+returns-in_default-carrier g c =
     let m = g.C.Code.meaning c.args.code in
     let answer = λ (fit : g.C.Code.fit c.args.code).
     let numbers = c.in-Some.ensures fit in
-    shorten_no_carrier c.args.place m (omega (arith, c.if-place-whole.false, numbers.dimension)) (omega (arith, c.if-whole-lt2.false, numbers.dimension)) (sym (c.in-default-carrier.ensures fit)) in
+    shorten_no_carrier c.args.place m (omega (arith, c.if-place-whole.false, numbers.dimension)) (omega (arith, c.if-whole-lt2.false, numbers.dimension)) (sym (c.in_default-carrier.ensures fit)) in
     record {
       making = answer;
       fits = λ fit. tt;
-      one-step-of-a-pile = λ fit p e. shorten_on_pile g.Symbols.Alphabet.symbols m p e c.args.place (refused_making 10) (answer fit);
+      one_step_of_a_pile = λ fit p e. shorten_on_pile g.C.Symbols.Alphabet.symbols m p e c.args.place (refused_making 10) (answer fit);
       every_pile_keeps_its_meaning = every_pile_keeps_its_meaning;
     }
 
@@ -59,20 +59,20 @@ returns-then-lost-whole g c =
     record {
       making = λ fit. absurd (omega (arith, within fit, c.if-lost-whole.true, (c.in-Some.ensures fit).length));
       fits = λ fit. tt;
-      one-step-of-a-pile = λ fit p e. absurd (omega (arith, within fit, c.if-lost-whole.true, (c.in-Some.ensures fit).length));
+      one_step_of_a_pile = λ fit p e. absurd (omega (arith, within fit, c.if-lost-whole.true, (c.in-Some.ensures fit).length));
       every_pile_keeps_its_meaning = every_pile_keeps_its_meaning;
     }
 
-pub returns-then-whole-gt-MOST-WORKING : goal.returns-then-whole-gt-MOST-WORKING
-returns-then-whole-gt-MOST-WORKING g c =
+pub returns-then-whole-gt-MOST_WORKING : goal.returns-then-whole-gt-MOST_WORKING
+returns-then-whole-gt-MOST_WORKING g c =
     let m = g.C.Code.meaning c.args.code in
     let answer = λ (fit : g.C.Code.fit c.args.code).
     let numbers = c.in-Some.ensures fit in
-    shorten_too_long c.args.place m (omega (arith, c.if-place-whole.false, numbers.dimension)) (omega (arith, c.if-whole-lt2.false, numbers.dimension)) c.in-Some-carrier.lost (sym (c.in-Some-carrier.ensures fit)) (omega (arith, c.if-whole-gt-MOST-WORKING.true, numbers.length, numbers.working)) in
+    shorten_too_long c.args.place m (omega (arith, c.if-place-whole.false, numbers.dimension)) (omega (arith, c.if-whole-lt2.false, numbers.dimension)) c.in-Some-carrier.lost (sym (c.in-Some-carrier.ensures fit)) (omega (arith, c.if-whole-gt-MOST_WORKING.true, numbers.length, numbers.working)) in
     record {
       making = answer;
       fits = λ fit. tt;
-      one-step-of-a-pile = λ fit p e. shorten_on_pile g.Symbols.Alphabet.symbols m p e c.args.place (refused_making 6) (answer fit);
+      one_step_of_a_pile = λ fit p e. shorten_on_pile g.C.Symbols.Alphabet.symbols m p e c.args.place (refused_making 6) (answer fit);
       every_pile_keeps_its_meaning = every_pile_keeps_its_meaning;
     }
 
@@ -81,10 +81,10 @@ returns g c =
     let m = g.C.Code.meaning c.args.code in
     let answer = λ (fit : g.C.Code.fit c.args.code).
     let numbers = c.in-Some.ensures fit in
-    shorten_made c.args.place m (omega (arith, c.if-place-whole.false, numbers.dimension)) (omega (arith, c.if-whole-lt2.false, numbers.dimension)) c.in-Some-carrier.lost (sym (c.in-Some-carrier.ensures fit)) (omega (arith, c.if-whole-gt-MOST-WORKING.false, numbers.length, numbers.working)) in
+    shorten_made c.args.place m (omega (arith, c.if-place-whole.false, numbers.dimension)) (omega (arith, c.if-whole-lt2.false, numbers.dimension)) c.in-Some-carrier.lost (sym (c.in-Some-carrier.ensures fit)) (omega (arith, c.if-whole-gt-MOST_WORKING.false, numbers.length, numbers.working)) in
     record {
       making = answer;
       fits = λ fit. (fit, c.in-Some.ensures fit, sym (c.in-Some-carrier.ensures fit));
-      one-step-of-a-pile = λ fit p e. shorten_on_pile g.Symbols.Alphabet.symbols m p e c.args.place (made (shorten c.args.place c.in-Some-carrier.lost m)) (answer fit);
+      one_step_of_a_pile = λ fit p e. shorten_on_pile g.C.Symbols.Alphabet.symbols m p e c.args.place (made (shorten c.args.place c.in-Some-carrier.lost m)) (answer fit);
       every_pile_keeps_its_meaning = every_pile_keeps_its_meaning;
     }

@@ -20,14 +20,14 @@ returns-in-Some g c fit =
     sym (sent_by_lem g.C.Symbols.Alphabet.symbols (shorten c.args.self.now.place c.args.self.now.lost (g.C.Code.meaning c.args.self.now.code)) c.args.memory.now (omega (arith, c.if-memory-end.false, fit.1.length, fit.1.working)) (Some c.in-Some.place)
     (ap (λ (i : ℕ). first_mark q (take (i - 1) c.args.memory.now)) (sym fit.1.dimension) ∙ sym (ap (first_mark q) (front_is (k - 1) c.args.memory.now)) ∙ sym c.in-Some.ensures))
 
-pub returns-in-err-send-part : goal.returns-in-err-send-part
-returns-in-err-send-part g c fit =
-    let none = sym (ap (first_mark g.C.Symbols.Alphabet.symbols.q) (front_is (c.args.self.now.whole.dimension - 1) c.args.memory.now)) ∙ sym c.in-default.ensures in
-    let way = sends g.C.Symbols.Alphabet.symbols g.met.C.Symbols.Alphabet.lawful (g.C.Code.meaning c.args.self.now.code) (g.met.C.Code.keeps c.args.self.now.code fit.0) c.args.self.now.place c.args.self.now.lost fit.2 c.args.self.now.whole fit.1 c.args.self.now.within c.args.self.now.remains c.args.self.now.bounded c.args.memory.now c.if-memory-end.false none (outcome c.send-part.result) c.send-part.new.memory (c.send-part.ensures fit.0 ∙ ap (call_in_part (sent g.C.Symbols.Alphabet.symbols (g.C.Code.meaning c.args.self.now.code)) c.args.self.now.whole.length c.args.self.now.whole.dimension c.args.self.now.whole.length c.args.self.now.whole.working) c.widen.ensures) in
-    absurd (err_is_refused c.send-part.result c.in-err-send-part.field-0.0 c.in-err-send-part.was way.0)
+pub returns-in_err-send_part : goal.returns-in_err-send_part
+returns-in_err-send_part g c fit =
+    let none = sym (ap (first_mark g.C.Symbols.Alphabet.symbols.q) (front_is (c.args.self.now.whole.dimension - 1) c.args.memory.now)) ∙ sym c.in_default.ensures in
+    let way = sends g.C.Symbols.Alphabet.symbols g.met.C.Symbols.Alphabet.lawful (g.C.Code.meaning c.args.self.now.code) (g.met.C.Code.keeps c.args.self.now.code fit.0) c.args.self.now.place c.args.self.now.lost fit.2 c.args.self.now.whole fit.1 c.args.self.now.within c.args.self.now.remains c.args.self.now.bounded c.args.memory.now c.if-memory-end.false none (outcome c.send_part.result) c.send_part.new.memory (c.send_part.ensures fit.0 ∙ ap (call_in_part (sent g.C.Symbols.Alphabet.symbols (g.C.Code.meaning c.args.self.now.code)) c.args.self.now.whole.length c.args.self.now.whole.dimension c.args.self.now.whole.length c.args.self.now.whole.working) c.widen.ensures) in
+    absurd (err_is_refused c.send_part.result c.in_err-send_part.field-0.0 c.in_err-send_part.was way.0)
 
 pub returns : goal.returns
 returns g c fit =
-    let none = sym (ap (first_mark g.C.Symbols.Alphabet.symbols.q) (front_is (c.args.self.now.whole.dimension - 1) c.args.memory.now)) ∙ sym c.in-default.ensures in
-    let way = sends g.C.Symbols.Alphabet.symbols g.met.C.Symbols.Alphabet.lawful (g.C.Code.meaning c.args.self.now.code) (g.met.C.Code.keeps c.args.self.now.code fit.0) c.args.self.now.place c.args.self.now.lost fit.2 c.args.self.now.whole fit.1 c.args.self.now.within c.args.self.now.remains c.args.self.now.bounded c.args.memory.now c.if-memory-end.false none (outcome c.send-part.result) c.send-part.new.memory (c.send-part.ensures fit.0 ∙ ap (call_in_part (sent g.C.Symbols.Alphabet.symbols (g.C.Code.meaning c.args.self.now.code)) c.args.self.now.whole.length c.args.self.now.whole.dimension c.args.self.now.whole.length c.args.self.now.whole.working) c.widen.ensures) in
-    ap (paired accepted) c.narrow-to-front.ensures ∙ way.1
+    let none = sym (ap (first_mark g.C.Symbols.Alphabet.symbols.q) (front_is (c.args.self.now.whole.dimension - 1) c.args.memory.now)) ∙ sym c.in_default.ensures in
+    let way = sends g.C.Symbols.Alphabet.symbols g.met.C.Symbols.Alphabet.lawful (g.C.Code.meaning c.args.self.now.code) (g.met.C.Code.keeps c.args.self.now.code fit.0) c.args.self.now.place c.args.self.now.lost fit.2 c.args.self.now.whole fit.1 c.args.self.now.within c.args.self.now.remains c.args.self.now.bounded c.args.memory.now c.if-memory-end.false none (outcome c.send_part.result) c.send_part.new.memory (c.send_part.ensures fit.0 ∙ ap (call_in_part (sent g.C.Symbols.Alphabet.symbols (g.C.Code.meaning c.args.self.now.code)) c.args.self.now.whole.length c.args.self.now.whole.dimension c.args.self.now.whole.length c.args.self.now.whole.working) c.widen.ensures) in
+    ap (paired accepted) c.narrow_to_front.ensures ∙ way.1

@@ -6,9 +6,9 @@ use Rattle.std.proofs.iter.Next.{firm}
 
 pub returns : goal.returns
 returns c =
-    let rest = c.in-ok-rest.rest.now in
+    let rest = c.in_ok-rest.rest.now in
     let fewer = pieces_fewer c.args.self.now.separator rest c.cut.result.1 c.cut.ensures.rest in
     record {
-      steps = next_piece c.args.self.now c.in-ok-rest.rest c.cut.result.0 c.cut.result.1 c.in-ok-rest.was c.cut.ensures.piece c.cut.ensures.rest;
-      goes = firm ((tt, tt, subst (λ o. pieces_left c.cut.result.1 < pieces_left o) (sym c.in-ok-rest.was) fewer)) (λ h. search rules);
+      steps = next_piece c.args.self.now c.in_ok-rest.rest c.cut.result.0 c.cut.result.1 c.in_ok-rest.was c.cut.ensures.piece c.cut.ensures.rest;
+      goes = firm ((tt, tt, subst (λ o. pieces_left c.cut.result.1 < pieces_left o) (sym c.in_ok-rest.was) fewer)) (λ h. search rules);
     }

@@ -6,42 +6,42 @@ use Rattle.cues.proofs.plotting_store.Plotting.record_by_slip.Goals as goal
 
 pub returns-then-cue-self : goal.returns-then-cue-self
 returns-then-cue-self g c =
-    let A = g.Symbols.Alphabet.symbols in
+    let A = g.C.Symbols.Alphabet.symbols in
     let store = c.args.self.now.store in
     let m = g.C.Code.meaning store.code in
     record { answer = λ f. slip_no_cue A m (plan_in store.shape) c.args.slip.now.cue (state_in store.kept) c.args.cells.now c.args.levels.now c.args.memory.now c.if-cue-self.true; same = record { code = refl; shape = refl } }
 
-pub returns-then-is-short : goal.returns-then-is-short
-returns-then-is-short g c =
-    let A = g.Symbols.Alphabet.symbols in
+pub returns-then-is_short : goal.returns-then-is_short
+returns-then-is_short g c =
+    let A = g.C.Symbols.Alphabet.symbols in
     let store = c.args.self.now.store in
     let m = g.C.Code.meaning store.code in
-    record { answer = λ f. slip_too_short A m (plan_in store.shape) c.args.slip.now.cue (state_in store.kept) c.args.cells.now c.args.levels.now c.args.memory.now c.if-cue-self.false (sym (few_is A m store.shape f (length c.args.cells.now) (length c.args.memory.now)) ∙ sym c.is-short.ensures ∙ c.if-is-short.true); same = record { code = refl; shape = refl } }
+    record { answer = λ f. slip_too_short A m (plan_in store.shape) c.args.slip.now.cue (state_in store.kept) c.args.cells.now c.args.levels.now c.args.memory.now c.if-cue-self.false (sym (few_is A m store.shape f (length c.args.cells.now) (length c.args.memory.now)) ∙ sym c.is_short.ensures ∙ c.if-is_short.true); same = record { code = refl; shape = refl } }
 
 pub returns-then-levels-self : goal.returns-then-levels-self
 returns-then-levels-self g c =
-    let A = g.Symbols.Alphabet.symbols in
+    let A = g.C.Symbols.Alphabet.symbols in
     let store = c.args.self.now.store in
     let m = g.C.Code.meaning store.code in
-    record { answer = λ f. slip_too_many A m (plan_in store.shape) c.args.slip.now.cue (state_in store.kept) c.args.cells.now c.args.levels.now c.args.memory.now c.if-cue-self.false (sym (few_is A m store.shape f (length c.args.cells.now) (length c.args.memory.now)) ∙ sym c.is-short.ensures ∙ c.if-is-short.false) c.if-levels-self.true; same = record { code = refl; shape = refl } }
+    record { answer = λ f. slip_too_many A m (plan_in store.shape) c.args.slip.now.cue (state_in store.kept) c.args.cells.now c.args.levels.now c.args.memory.now c.if-cue-self.false (sym (few_is A m store.shape f (length c.args.cells.now) (length c.args.memory.now)) ∙ sym c.is_short.ensures ∙ c.if-is_short.false) c.if-levels-self.true; same = record { code = refl; shape = refl } }
 
 pub returns-then-not-self-cue : goal.returns-then-not-self-cue
 returns-then-not-self-cue g c =
-    let A = g.Symbols.Alphabet.symbols in
+    let A = g.C.Symbols.Alphabet.symbols in
     let store = c.args.self.now.store in
     let m = g.C.Code.meaning store.code in
-    record { answer = λ f. slip_refused A m (plan_in store.shape) c.args.slip.now.cue (state_in store.kept) c.args.cells.now c.args.levels.now c.args.memory.now c.if-cue-self.false (sym (few_is A m store.shape f (length c.args.cells.now) (length c.args.memory.now)) ∙ sym c.is-short.ensures ∙ c.if-is-short.false) c.if-levels-self.false (not_from_false _ c.if-not-self-cue.true); same = record { code = refl; shape = refl } }
+    record { answer = λ f. slip_refused A m (plan_in store.shape) c.args.slip.now.cue (state_in store.kept) c.args.cells.now c.args.levels.now c.args.memory.now c.if-cue-self.false (sym (few_is A m store.shape f (length c.args.cells.now) (length c.args.memory.now)) ∙ sym c.is_short.ensures ∙ c.if-is_short.false) c.if-levels-self.false (not_from_false _ c.if-not-self-cue.true); same = record { code = refl; shape = refl } }
 
-pub write-words-requires : goal.write-words-requires
-write-words-requires g c =
-    (enough_from c.args.self.now.store.shape c.args.slip.now.cue (length c.args.cells.now) (length c.args.memory.now) c.if-cue-self.false (sym c.is-short.ensures ∙ c.if-is-short.false), c.if-levels-self.false)
+pub write_words-requires : goal.write_words-requires
+write_words-requires g c =
+    (enough_from c.args.self.now.store.shape c.args.slip.now.cue (length c.args.cells.now) (length c.args.memory.now) c.if-cue-self.false (sym c.is_short.ensures ∙ c.if-is_short.false), c.if-levels-self.false)
 
 pub returns : goal.returns
 returns g c =
-    let A = g.Symbols.Alphabet.symbols in
+    let A = g.C.Symbols.Alphabet.symbols in
     let store = c.args.self.now.store in
     let m = g.C.Code.meaning store.code in
     record {
-      answer = λ f. slip_accepted A m (plan_in store.shape) c.args.slip.now.cue (state_in store.kept) c.args.cells.now c.args.levels.now c.args.memory.now c.if-cue-self.false (sym (few_is A m store.shape f (length c.args.cells.now) (length c.args.memory.now)) ∙ sym c.is-short.ensures ∙ c.if-is-short.false) c.if-levels-self.false (not_from_true _ c.if-not-self-cue.false) c.write-words.new.cells c.write-words.new.memory (c.write-words.ensures f).written (c.write-words.ensures f).cleared;
+      answer = λ f. slip_accepted A m (plan_in store.shape) c.args.slip.now.cue (state_in store.kept) c.args.cells.now c.args.levels.now c.args.memory.now c.if-cue-self.false (sym (few_is A m store.shape f (length c.args.cells.now) (length c.args.memory.now)) ∙ sym c.is_short.ensures ∙ c.if-is_short.false) c.if-levels-self.false (not_from_true _ c.if-not-self-cue.false) c.write_words.new.cells c.write_words.new.memory (c.write_words.ensures f).written (c.write_words.ensures f).cleared;
       same = record { code = refl; shape = refl };
     }

@@ -6,28 +6,28 @@ use Rattle.cues.proofs.plotting_store.Plotting.wipe.Goals as goal
 
 pub returns-then-cue-self : goal.returns-then-cue-self
 returns-then-cue-self g c =
-    let A = g.Symbols.Alphabet.symbols in
+    let A = g.C.Symbols.Alphabet.symbols in
     let store = c.args.self.now.store in
     let m = g.C.Code.meaning store.code in
     record { answer = λ f. wipe_no_cue A m (plan_in store.shape) c.args.cue (state_in store.kept) c.args.cells.now c.if-cue-self.true; same = record { code = refl; shape = refl } }
 
 pub returns-then-cells-self : goal.returns-then-cells-self
 returns-then-cells-self g c =
-    let A = g.Symbols.Alphabet.symbols in
+    let A = g.C.Symbols.Alphabet.symbols in
     let store = c.args.self.now.store in
     let m = g.C.Code.meaning store.code in
     record { answer = λ f. wipe_too_short A m (plan_in store.shape) c.args.cue (state_in store.kept) c.args.cells.now c.if-cue-self.false (omega (arith, c.if-cells-self.true, cells_are A m store.shape f)); same = record { code = refl; shape = refl } }
 
 pub returns-then-self-cue : goal.returns-then-self-cue
 returns-then-self-cue g c =
-    let A = g.Symbols.Alphabet.symbols in
+    let A = g.C.Symbols.Alphabet.symbols in
     let store = c.args.self.now.store in
     let m = g.C.Code.meaning store.code in
     record { answer = λ f. wipe_held A m (plan_in store.shape) c.args.cue (state_in store.kept) c.args.cells.now c.if-cue-self.false (omega (arith, c.if-cells-self.false, cells_are A m store.shape f)) c.if-self-cue.true; same = record { code = refl; shape = refl } }
 
 pub returns : goal.returns
 returns g c =
-    let A = g.Symbols.Alphabet.symbols in
+    let A = g.C.Symbols.Alphabet.symbols in
     let store = c.args.self.now.store in
     let m = g.C.Code.meaning store.code in
     record {

@@ -7,7 +7,7 @@ use Rattle.cues.proofs.store.Store.check_filling.Given as goal
 
 abbrev pub invariant-loop-place : goal.invariant-loop-place
 invariant-loop-place g l =
-    FitStore (g.C.Code.fit l.self.code) g.Symbols.Alphabet.symbols (g.C.Code.meaning l.self.code) l.self.shape → AllReached g.Symbols.Alphabet.symbols (g.C.Code.meaning l.self.code) (plan_in l.self.shape) l.cue l.cells → Loaded g.Symbols.Alphabet.symbols (g.C.Code.meaning l.self.code) (plan_in l.self.shape) l.cue l.cells (symbol_count g.Symbols.Alphabet.symbols (plan_in l.self.shape)) l.initial.memory →
-    All (λ x. ltb 0 x ≡ false) (take (l.place - symbol_count g.Symbols.Alphabet.symbols (plan_in l.self.shape)) (filling g.Symbols.Alphabet.symbols (plan_in l.self.shape) (symbols_in g.Symbols.Alphabet.symbols (g.C.Code.meaning l.self.code) (plan_in l.self.shape) l.cue l.cells)))
-    × Loaded g.Symbols.Alphabet.symbols (g.C.Code.meaning l.self.code) (plan_in l.self.shape) l.cue l.cells l.place l.memory
+    FitStore (g.C.Code.fit l.self.code) g.C.Symbols.Alphabet.symbols (g.C.Code.meaning l.self.code) l.self.shape → AllReached g.C.Symbols.Alphabet.symbols (g.C.Code.meaning l.self.code) (plan_in l.self.shape) l.cue l.cells → Loaded g.C.Symbols.Alphabet.symbols (g.C.Code.meaning l.self.code) (plan_in l.self.shape) l.cue l.cells (symbol_count g.C.Symbols.Alphabet.symbols (plan_in l.self.shape)) l.initial.memory →
+    All (λ x. ltb 0 x ≡ false) (take (l.place - symbol_count g.C.Symbols.Alphabet.symbols (plan_in l.self.shape)) (filling g.C.Symbols.Alphabet.symbols (plan_in l.self.shape) (symbols_in g.C.Symbols.Alphabet.symbols (g.C.Code.meaning l.self.code) (plan_in l.self.shape) l.cue l.cells)))
+    × Loaded g.C.Symbols.Alphabet.symbols (g.C.Code.meaning l.self.code) (plan_in l.self.shape) l.cue l.cells l.place l.memory
     × SameBehind (g.C.Code.meaning l.self.code).w l.initial.memory l.memory

@@ -9,35 +9,35 @@ use Rattle.cues.proofs.store.Store.mend_words.Goals as goal
 pub loop-word-init : goal.loop-word-init
 loop-word-init g c f = (tt, refl)
 
-pub returns-in-err-mend-word : goal.returns-in-err-mend-word
-returns-in-err-mend-word g c f =
-    let A = g.Symbols.Alphabet.symbols in
-    let laws = g.met.Symbols.Alphabet.lawful in
+pub returns-in_err-mend_word : goal.returns-in_err-mend_word
+returns-in_err-mend_word g c f =
+    let A = g.C.Symbols.Alphabet.symbols in
+    let laws = g.met.C.Symbols.Alphabet.lawful in
     let code = c.args.self.now.code in
     let shape = c.args.self.now.shape in
     let m = g.C.Code.meaning code in
     let before = c.loop-word.invariant f in
-    let p = err_from_is_err_and c.from-residual.result c.from-residual.ensures.1 in
-    let passed = ap store_outcome (p.1 ∙ ap Err p.2) ∙ sym (ap store_outcome c.in-err-mend-word.was) in
+    let p = err_from_is_err_and c.from_residual.result c.from_residual.ensures.1 in
+    let passed = ap store_outcome (p.1 ∙ ap Err p.2) ∙ sym (ap store_outcome c.in_err-mend_word.was) in
     record {
-      answers = passed ∙ reach_ends A laws m (g.met.C.Code.keeps code f.code) shape f c.args.cue c.args.cells.now c.loop-word.word c.loop-word-test.true c.loop-word.memory (omega (arith, c.loop-word.auto.memory, c.requires.works, f.numbers.working)) c.mend_word.new.memory (store_outcome c.mend_word.result) (c.mend_word.ensures f) (found_length A m shape f c.args.cue c.args.cells.now c.requires.there c.requires.room c.loop-word.word c.loop-word-test.true) (err_is_refused c.mend_word.result c.in-err-mend-word.field-0.0 c.in-err-mend-word.was) before.0;
+      answers = passed ∙ reach_ends A laws m (g.met.C.Code.keeps code f.code) shape f c.args.cue c.args.cells.now c.loop-word.word c.loop-word-test.true c.loop-word.memory (omega (arith, c.loop-word.auto.memory, c.requires.works, f.numbers.working)) c.mend_word.new.memory (store_outcome c.mend_word.result) (c.mend_word.ensures f) (found_length A m shape f c.args.cue c.args.cells.now c.requires.there c.requires.room c.loop-word.word c.loop-word-test.true) (err_is_refused c.mend_word.result c.in_err-mend_word.field-0.0 c.in_err-mend_word.was) before.0;
       rest = mend_leaves A laws m (g.met.C.Code.keeps code f.code) shape f c.args.cue c.args.cells.now c.loop-word.word c.loop-word-test.true c.loop-word.memory (omega (arith, c.loop-word.auto.memory, c.requires.works, f.numbers.working)) c.mend_word.new.memory (store_outcome c.mend_word.result) (c.mend_word.ensures f) (found_length A m shape f c.args.cue c.args.cells.now c.requires.there c.requires.room c.loop-word.word c.loop-word-test.true) ∙ before.1;
     }
 
 pub loop-word-preserved : goal.loop-word-preserved
 loop-word-preserved g c f =
-    let A = g.Symbols.Alphabet.symbols in
-    let laws = g.met.Symbols.Alphabet.lawful in
+    let A = g.C.Symbols.Alphabet.symbols in
+    let laws = g.met.C.Symbols.Alphabet.lawful in
     let code = c.args.self.now.code in
     let shape = c.args.self.now.shape in
     let m = g.C.Code.meaning code in
     let before = c.loop-word.invariant f in
-    (reach_more A laws m (g.met.C.Code.keeps code f.code) shape f c.args.cue c.args.cells.now c.loop-word.word c.loop-word-test.true c.loop-word.memory (omega (arith, c.loop-word.auto.memory, c.requires.works, f.numbers.working)) c.mend_word.new.memory (store_outcome c.mend_word.result) (c.mend_word.ensures f) (found_length A m shape f c.args.cue c.args.cells.now c.requires.there c.requires.room c.loop-word.word c.loop-word-test.true) (ap store_outcome c.in-ok-mend-word.was) before.0, mend_leaves A laws m (g.met.C.Code.keeps code f.code) shape f c.args.cue c.args.cells.now c.loop-word.word c.loop-word-test.true c.loop-word.memory (omega (arith, c.loop-word.auto.memory, c.requires.works, f.numbers.working)) c.mend_word.new.memory (store_outcome c.mend_word.result) (c.mend_word.ensures f) (found_length A m shape f c.args.cue c.args.cells.now c.requires.there c.requires.room c.loop-word.word c.loop-word-test.true) ∙ before.1)
+    (reach_more A laws m (g.met.C.Code.keeps code f.code) shape f c.args.cue c.args.cells.now c.loop-word.word c.loop-word-test.true c.loop-word.memory (omega (arith, c.loop-word.auto.memory, c.requires.works, f.numbers.working)) c.mend_word.new.memory (store_outcome c.mend_word.result) (c.mend_word.ensures f) (found_length A m shape f c.args.cue c.args.cells.now c.requires.there c.requires.room c.loop-word.word c.loop-word-test.true) (ap store_outcome c.in_ok-mend_word.was) before.0, mend_leaves A laws m (g.met.C.Code.keeps code f.code) shape f c.args.cue c.args.cells.now c.loop-word.word c.loop-word-test.true c.loop-word.memory (omega (arith, c.loop-word.auto.memory, c.requires.works, f.numbers.working)) c.mend_word.new.memory (store_outcome c.mend_word.result) (c.mend_word.ensures f) (found_length A m shape f c.args.cue c.args.cells.now c.requires.there c.requires.room c.loop-word.word c.loop-word-test.true) ∙ before.1)
 
 pub returns : goal.returns
 returns g c f =
-    let A = g.Symbols.Alphabet.symbols in
-    let laws = g.met.Symbols.Alphabet.lawful in
+    let A = g.C.Symbols.Alphabet.symbols in
+    let laws = g.met.C.Symbols.Alphabet.lawful in
     let code = c.args.self.now.code in
     let shape = c.args.self.now.shape in
     let m = g.C.Code.meaning code in

@@ -8,5 +8,5 @@ use Rattle.cues.proofs.store.Store.mend_words.Given as goal
 
 abbrev pub invariant-loop-word : goal.invariant-loop-word
 invariant-loop-word g l =
-    FitStore (g.C.Code.fit l.self.code) g.Symbols.Alphabet.symbols (g.C.Code.meaning l.self.code) l.self.shape →
-    All (λ x. is_beyond_reach g.Symbols.Alphabet.symbols (g.C.Code.meaning l.self.code) x ≡ false) (take l.word (cue_words g.Symbols.Alphabet.symbols (g.C.Code.meaning l.self.code) (plan_in l.self.shape) l.cells l.cue)) × SameBehind (g.C.Code.meaning l.self.code).w l.initial.memory l.memory
+    FitStore (g.C.Code.fit l.self.code) g.C.Symbols.Alphabet.symbols (g.C.Code.meaning l.self.code) l.self.shape →
+    All (λ x. is_beyond_reach g.C.Symbols.Alphabet.symbols (g.C.Code.meaning l.self.code) x ≡ false) (take l.word (cue_words g.C.Symbols.Alphabet.symbols (g.C.Code.meaning l.self.code) (plan_in l.self.shape) l.cells l.cue)) × SameBehind (g.C.Code.meaning l.self.code).w l.initial.memory l.memory

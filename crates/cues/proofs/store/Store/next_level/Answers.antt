@@ -9,36 +9,36 @@ use Rattle.cues.proofs.store.Store.next_level.Goals as goal
 
 pub loop-place-init : goal.loop-place-init
 loop-place-init g c =
-    let A = g.Symbols.Alphabet.symbols in
-    let laws = g.met.Symbols.Alphabet.lawful in
+    let A = g.C.Symbols.Alphabet.symbols in
+    let laws = g.met.C.Symbols.Alphabet.lawful in
     let code = c.args.self.now.code in
     let shape = c.args.self.now.shape in
     let m = g.C.Code.meaning code in
     (omega arith, λ f reached loaded. (refl, subst (λ (j : ℕ). Loaded A m (plan_in shape) c.args.cue c.args.cells.now (j) c.args.memory.now) (omega arith) loaded, refl))
 
-pub next-symbol-requires : goal.next-symbol-requires
-next-symbol-requires g c =
+pub next_symbol-requires : goal.next_symbol-requires
+next_symbol-requires g c =
     (record { there = c.requires.0.there; room = c.requires.0.room; works = omega (arith, c.requires.0.works, c.loop-place.auto.memory) }, level_place c.args.self.now.shape c.args.level c.loop-place.place c.requires.1 c.loop-place-test.true)
 
-pub returns-in-err-symbol : goal.returns-in-err-symbol
-returns-in-err-symbol g c f reached loaded =
-    let A = g.Symbols.Alphabet.symbols in
-    let laws = g.met.Symbols.Alphabet.lawful in
+pub returns-in_err-symbol : goal.returns-in_err-symbol
+returns-in_err-symbol g c f reached loaded =
+    let A = g.C.Symbols.Alphabet.symbols in
+    let laws = g.met.C.Symbols.Alphabet.lawful in
     let code = c.args.self.now.code in
     let shape = c.args.self.now.shape in
     let m = g.C.Code.meaning code in
     let at : c.args.level * shape.width + c.loop-place.place ≡ c.args.level * A.b + c.loop-place.place = ap (λ (w : ℕ). c.args.level * w + c.loop-place.place) f.width in
     let before = c.loop-place.invariant.1 f reached loaded in
-    let one = c.next-symbol.ensures f reached (subst (λ (j : ℕ). Loaded A m (plan_in shape) c.args.cue c.args.cells.now (j) c.loop-place.memory) (sym at) before.1) in
-    absurd (err_is_not_ok c.next-symbol.result _ _ c.in-err-symbol.was one.answers)
+    let one = c.next_symbol.ensures f reached (subst (λ (j : ℕ). Loaded A m (plan_in shape) c.args.cue c.args.cells.now (j) c.loop-place.memory) (sym at) before.1) in
+    absurd (err_is_not_ok c.next_symbol.result _ _ c.in_err-symbol.was one.answers)
 
 pub carried-number-requires : goal.carried-number-requires
 carried-number-requires g c = c.loop-place.invariant.0
 
 pub loop-place-preserved : goal.loop-place-preserved
 loop-place-preserved g c =
-    let A = g.Symbols.Alphabet.symbols in
-    let laws = g.met.Symbols.Alphabet.lawful in
+    let A = g.C.Symbols.Alphabet.symbols in
+    let laws = g.met.C.Symbols.Alphabet.lawful in
     let code = c.args.self.now.code in
     let shape = c.args.self.now.shape in
     let m = g.C.Code.meaning code in (
@@ -46,16 +46,16 @@ loop-place-preserved g c =
       λ f reached loaded.
           let at : c.args.level * shape.width + c.loop-place.place ≡ c.args.level * A.b + c.loop-place.place = ap (λ (w : ℕ). c.args.level * w + c.loop-place.place) f.width in
           let before = c.loop-place.invariant.1 f reached loaded in
-          let one = c.next-symbol.ensures f reached (subst (λ (j : ℕ). Loaded A m (plan_in shape) c.args.cue c.args.cells.now (j) c.loop-place.memory) (sym at) before.1) in
-          let symbol : c.in-ok-symbol.symbol ≡ get_or (symbols_in A m (plan_in shape) c.args.cue c.args.cells.now) (c.args.level * A.b + c.loop-place.place) 0 = same_value c.next-symbol.result _ _ c.in-ok-symbol.was one.answers ∙ ap (λ (j : ℕ). get_or (symbols_in A m (plan_in shape) c.args.cue c.args.cells.now) j 0) at in
+          let one = c.next_symbol.ensures f reached (subst (λ (j : ℕ). Loaded A m (plan_in shape) c.args.cue c.args.cells.now (j) c.loop-place.memory) (sym at) before.1) in
+          let symbol : c.in_ok-symbol.symbol ≡ get_or (symbols_in A m (plan_in shape) c.args.cue c.args.cells.now) (c.args.level * A.b + c.loop-place.place) 0 = same_value c.next_symbol.result _ _ c.in_ok-symbol.was one.answers ∙ ap (λ (j : ℕ). get_or (symbols_in A m (plan_in shape) c.args.cue c.args.cells.now) j 0) at in
           let next : c.args.level * shape.width + c.loop-place.place + 1 ≡ c.args.level * A.b + (c.loop-place.place + 1) = omega (arith, at) in
-          (c.carried-number.ensures ∙ ap (λ (q : ℕ). min 256 (c.loop-place.number * q + c.in-ok-symbol.symbol)) f.order ∙ level_more A.q A.b c.args.level c.loop-place.place c.loop-place.number c.in-ok-symbol.symbol (symbols_in A m (plan_in shape) c.args.cue c.args.cells.now) (omega (arith, laws.two_symbols)) (omega (arith, c.loop-place-test.true, f.width)) (level_fits_in A m shape f c.args.level c.requires.1 (length (symbols_in A m (plan_in shape) c.args.cue c.args.cells.now)) (symbols_count A laws m (g.met.C.Code.keeps code f.code) shape f c.args.cue c.args.cells.now reached)) before.0 symbol, subst (λ (j : ℕ). Loaded A m (plan_in shape) c.args.cue c.args.cells.now (j) c.next-symbol.new.memory) next one.loaded, one.rest ∙ before.2),
+          (c.carried-number.ensures ∙ ap (λ (q : ℕ). min 256 (c.loop-place.number * q + c.in_ok-symbol.symbol)) f.order ∙ level_more A.q A.b c.args.level c.loop-place.place c.loop-place.number c.in_ok-symbol.symbol (symbols_in A m (plan_in shape) c.args.cue c.args.cells.now) (omega (arith, laws.two_symbols)) (omega (arith, c.loop-place-test.true, f.width)) (level_fits_in A m shape f c.args.level c.requires.1 (length (symbols_in A m (plan_in shape) c.args.cue c.args.cells.now)) (symbols_count A laws m (g.met.C.Code.keeps code f.code) shape f c.args.cue c.args.cells.now reached)) before.0 symbol, subst (λ (j : ℕ). Loaded A m (plan_in shape) c.args.cue c.args.cells.now (j) c.next_symbol.new.memory) next one.loaded, one.rest ∙ before.2),
     )
 
 pub returns : goal.returns
 returns g c f reached loaded =
-    let A = g.Symbols.Alphabet.symbols in
-    let laws = g.met.Symbols.Alphabet.lawful in
+    let A = g.C.Symbols.Alphabet.symbols in
+    let laws = g.met.C.Symbols.Alphabet.lawful in
     let code = c.args.self.now.code in
     let shape = c.args.self.now.shape in
     let m = g.C.Code.meaning code in

@@ -8,19 +8,19 @@ use Rattle.cues.proofs.Sizes.{found_length}
 use Rattle.cues.proofs.WordReads.{mend_accepts, word_read_back}
 use Rattle.cues.proofs.store.Store.read_word.Goals as goal
 
-pub returns-in-err-mend-word : goal.returns-in-err-mend-word
-returns-in-err-mend-word g c f reached =
-    let A = g.Symbols.Alphabet.symbols in
-    let laws = g.met.Symbols.Alphabet.lawful in
+pub returns-in_err-mend_word : goal.returns-in_err-mend_word
+returns-in_err-mend_word g c f reached =
+    let A = g.C.Symbols.Alphabet.symbols in
+    let laws = g.met.C.Symbols.Alphabet.lawful in
     let code = c.args.self.now.code in
     let shape = c.args.self.now.shape in
     let m = g.C.Code.meaning code in
-    absurd (err_is_refused c.mend_word.result c.in-err-mend-word.field-0.0 c.in-err-mend-word.was (mend_accepts A laws m (g.met.C.Code.keeps code f.code) shape f c.args.cue c.args.cells.now c.args.word c.requires.1 c.args.memory.now (omega (arith, c.requires.0.works, f.numbers.working)) c.mend_word.new.memory (store_outcome c.mend_word.result) (c.mend_word.ensures f) (found_length A m shape f c.args.cue c.args.cells.now c.requires.0.there c.requires.0.room c.args.word c.requires.1) reached))
+    absurd (err_is_refused c.mend_word.result c.in_err-mend_word.field-0.0 c.in_err-mend_word.was (mend_accepts A laws m (g.met.C.Code.keeps code f.code) shape f c.args.cue c.args.cells.now c.args.word c.requires.1 c.args.memory.now (omega (arith, c.requires.0.works, f.numbers.working)) c.mend_word.new.memory (store_outcome c.mend_word.result) (c.mend_word.ensures f) (found_length A m shape f c.args.cue c.args.cells.now c.requires.0.there c.requires.0.room c.args.word c.requires.1) reached))
 
 pub returns-in-Ok : goal.returns-in-Ok
 returns-in-Ok g c f reached =
-    let A = g.Symbols.Alphabet.symbols in
-    let laws = g.met.Symbols.Alphabet.lawful in
+    let A = g.C.Symbols.Alphabet.symbols in
+    let laws = g.met.C.Symbols.Alphabet.lawful in
     let code = c.args.self.now.code in
     let shape = c.args.self.now.shape in
     let m = g.C.Code.meaning code in
@@ -28,8 +28,8 @@ returns-in-Ok g c f reached =
 
 pub returns-in-Err : goal.returns-in-Err
 returns-in-Err g c f reached =
-    let A = g.Symbols.Alphabet.symbols in
-    let laws = g.met.Symbols.Alphabet.lawful in
+    let A = g.C.Symbols.Alphabet.symbols in
+    let laws = g.met.C.Symbols.Alphabet.lawful in
     let code = c.args.self.now.code in
     let shape = c.args.self.now.shape in
     let m = g.C.Code.meaning code in

@@ -8,8 +8,8 @@ use Rattle.cues.proofs.store.Store.show_levels.Given as goal
 
 abbrev pub invariant-loop-level : goal.invariant-loop-level
 invariant-loop-level g l =
-    FitStore (g.C.Code.fit l.self.code) g.Symbols.Alphabet.symbols (g.C.Code.meaning l.self.code) l.self.shape → AllReached g.Symbols.Alphabet.symbols (g.C.Code.meaning l.self.code) (plan_in l.self.shape) l.cue l.cells →
-    All (λ x. ltb 255 x ≡ false) (take l.level (level_numbers g.Symbols.Alphabet.symbols (plan_in l.self.shape) (symbols_in g.Symbols.Alphabet.symbols (g.C.Code.meaning l.self.code) (plan_in l.self.shape) l.cue l.cells)))
-    × (l.levels ≡ over l.initial.levels 0 (take l.level (level_numbers g.Symbols.Alphabet.symbols (plan_in l.self.shape) (symbols_in g.Symbols.Alphabet.symbols (g.C.Code.meaning l.self.code) (plan_in l.self.shape) l.cue l.cells))))
-    × Loaded g.Symbols.Alphabet.symbols (g.C.Code.meaning l.self.code) (plan_in l.self.shape) l.cue l.cells (l.level * g.Symbols.Alphabet.symbols.b) l.memory
+    FitStore (g.C.Code.fit l.self.code) g.C.Symbols.Alphabet.symbols (g.C.Code.meaning l.self.code) l.self.shape → AllReached g.C.Symbols.Alphabet.symbols (g.C.Code.meaning l.self.code) (plan_in l.self.shape) l.cue l.cells →
+    All (λ x. ltb 255 x ≡ false) (take l.level (level_numbers g.C.Symbols.Alphabet.symbols (plan_in l.self.shape) (symbols_in g.C.Symbols.Alphabet.symbols (g.C.Code.meaning l.self.code) (plan_in l.self.shape) l.cue l.cells)))
+    × (l.levels ≡ over l.initial.levels 0 (take l.level (level_numbers g.C.Symbols.Alphabet.symbols (plan_in l.self.shape) (symbols_in g.C.Symbols.Alphabet.symbols (g.C.Code.meaning l.self.code) (plan_in l.self.shape) l.cue l.cells))))
+    × Loaded g.C.Symbols.Alphabet.symbols (g.C.Code.meaning l.self.code) (plan_in l.self.shape) l.cue l.cells (l.level * g.C.Symbols.Alphabet.symbols.b) l.memory
     × SameBehind (g.C.Code.meaning l.self.code).w l.initial.memory l.memory

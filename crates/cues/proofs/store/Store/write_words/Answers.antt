@@ -6,14 +6,14 @@ use Rattle.cues.proofs.store.Store.write_words.Goals as goal
 pub loop-word-init : goal.loop-word-init
 loop-word-init g c f =
     let code = c.args.self.now.code in
-    (words_none g.Symbols.Alphabet.symbols g.met.Symbols.Alphabet.lawful (g.C.Code.meaning code) (g.met.C.Code.keeps code f.code) c.args.self.now.shape f c.args.cue c.args.cells.now c.args.memory.now c.requires.0 c.args.levels.now c.requires.1, refl)
+    (words_none g.C.Symbols.Alphabet.symbols g.met.C.Symbols.Alphabet.lawful (g.C.Code.meaning code) (g.met.C.Code.keeps code f.code) c.args.self.now.shape f c.args.cue c.args.cells.now c.args.memory.now c.requires.0 c.args.levels.now c.requires.1, refl)
 
 pub loop-word-preserved : goal.loop-word-preserved
 loop-word-preserved g c f =
     let code = c.args.self.now.code in
     let before = c.loop-word.invariant f in
-    let wrote = c.write-word.ensures f in
-    (words_more g.Symbols.Alphabet.symbols g.met.Symbols.Alphabet.lawful (g.C.Code.meaning code) (g.met.C.Code.keeps code f.code) c.args.self.now.shape f c.args.cue c.args.cells.now c.args.memory.now c.requires.0 c.args.levels.now c.requires.1 c.loop-word.word c.loop-word-test.true c.loop-word.cells c.write-word.new.cells before.0 wrote.written, wrote.rest ∙ before.1)
+    let wrote = c.write_word.ensures f in
+    (words_more g.C.Symbols.Alphabet.symbols g.met.C.Symbols.Alphabet.lawful (g.C.Code.meaning code) (g.met.C.Code.keeps code f.code) c.args.self.now.shape f c.args.cue c.args.cells.now c.args.memory.now c.requires.0 c.args.levels.now c.requires.1 c.loop-word.word c.loop-word-test.true c.loop-word.cells c.write_word.new.cells before.0 wrote.written, wrote.rest ∙ before.1)
 
 pub returns : goal.returns
 returns g c f =
@@ -23,6 +23,6 @@ returns g c f =
     let before = c.loop-word.invariant f in
     record {
       accepts = refl;
-      written = words_all g.Symbols.Alphabet.symbols g.met.Symbols.Alphabet.lawful m (g.met.C.Code.keeps code f.code) shape f c.args.cue c.args.cells.now c.args.memory.now c.requires.0 c.args.levels.now c.requires.1 c.loop-word.word c.loop-word-test.false c.loop-word.cells before.0;
+      written = words_all g.C.Symbols.Alphabet.symbols g.met.C.Symbols.Alphabet.lawful m (g.met.C.Code.keeps code f.code) shape f c.args.cue c.args.cells.now c.args.memory.now c.requires.0 c.args.levels.now c.requires.1 c.loop-word.word c.loop-word-test.false c.loop-word.cells before.0;
       cleared = c.clear.ensures ∙ cleared_same shape.numbers.working m.w c.args.memory.now c.loop-word.memory f.numbers.working (omega (arith, c.loop-word.auto.memory, c.requires.0.works, f.numbers.working)) before.1;
     }

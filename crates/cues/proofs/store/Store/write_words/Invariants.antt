@@ -8,6 +8,6 @@ use Rattle.cues.proofs.store.Store.write_words.Given as goal
 
 abbrev pub invariant-loop-word : goal.invariant-loop-word
 invariant-loop-word g l =
-    FitStore (g.C.Code.fit l.self.code) g.Symbols.Alphabet.symbols (g.C.Code.meaning l.self.code) l.self.shape →
-    (l.cells ≡ over l.initial.cells (cell_of_word g.Symbols.Alphabet.symbols (g.C.Code.meaning l.self.code) (plan_in l.self.shape) l.cue 0) (together (take l.word (words_of g.Symbols.Alphabet.symbols (g.C.Code.meaning l.self.code) (plan_in l.self.shape) (all_levels (plan_in l.self.shape) l.levels)))))
+    FitStore (g.C.Code.fit l.self.code) g.C.Symbols.Alphabet.symbols (g.C.Code.meaning l.self.code) l.self.shape →
+    (l.cells ≡ over l.initial.cells (cell_of_word g.C.Symbols.Alphabet.symbols (g.C.Code.meaning l.self.code) (plan_in l.self.shape) l.cue 0) (together (take l.word (words_of g.C.Symbols.Alphabet.symbols (g.C.Code.meaning l.self.code) (plan_in l.self.shape) (all_levels (plan_in l.self.shape) l.levels)))))
     × SameBehind (g.C.Code.meaning l.self.code).w l.initial.memory l.memory

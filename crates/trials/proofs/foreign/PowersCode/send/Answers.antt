@@ -14,5 +14,5 @@ returns-in-Some c fit = send_mark five 4 1 3 powers_checks powers_keeps c.args.m
 
 pub returns : goal.returns
 returns c fit =
-    send_word five 4 1 3 powers_checks powers_keeps c.args.memory.now c.if-memory-lt-LENGTH.false (sym c.in-default.ensures) c.copy-from-slice.new.self
-    (c.copy-from-slice.ensures.after ∙ c.word-of-word.ensures ∙ ap (λ (s : List ℕ). powers.word s) (first_places 1 c.args.memory.now (omega arith)))
+    send_word five 4 1 3 powers_checks powers_keeps c.args.memory.now c.if-memory-lt-LENGTH.false (sym c.in_default.ensures) c.copy_from_slice.new.self
+    (c.copy_from_slice.ensures.after ∙ c.word_of-word.ensures ∙ ap (λ (s : List ℕ). powers.word s) (first_places 1 c.args.memory.now (omega arith)))
