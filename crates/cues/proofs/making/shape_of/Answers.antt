@@ -41,7 +41,20 @@ invariant_of-result g c =
     let laws = g.met.C.Symbols.Alphabet.lawful in
     let narrow = width_narrow g.C.Symbols.Alphabet.symbols laws in
     let some = width_some g.C.Symbols.Alphabet.symbols laws in
-    (omega arith, (omega (arith, laws.two_symbols, c.order-order.ensures), (omega (arith, laws.few_symbols, c.order-order.ensures), (omega (arith, some), (omega (arith, narrow), (omega arith, (omega arith, (few_words c.args.cues c.args.levels c.width-width.result (omega arith) (omega arith) (omega (arith, narrow)) c.in-Some.numbers.length c.in-Some.numbers.dimension (omega (arith, c.in-Some.numbers.word, c.in-Some.numbers.bounded)) (omega (arith, c.in-Some.numbers.message, c.in-Some.numbers.bounded)), (enough_words_lem c.args.levels c.width-width.result c.in-Some.numbers.dimension (omega arith), (refl, (refl, (omega arith, tt))))))))))))
+    record {
+      some_symbols = omega arith;
+      two_symbols = omega (arith, laws.two_symbols, c.order-order.ensures);
+      few_symbols = omega (arith, laws.few_symbols, c.order-order.ensures);
+      some_width = omega (arith, some);
+      narrow = omega (arith, narrow);
+      few_cues = omega arith;
+      few_levels = omega arith;
+      few_words = few_words c.args.cues c.args.levels c.width-width.result (omega arith) (omega arith) (omega (arith, narrow)) c.in-Some.numbers.length c.in-Some.numbers.dimension (omega (arith, c.in-Some.numbers.word, c.in-Some.numbers.bounded)) (omega (arith, c.in-Some.numbers.message, c.in-Some.numbers.bounded));
+      enough_words = enough_words_lem c.args.levels c.width-width.result c.in-Some.numbers.dimension (omega arith);
+      of_a_cue = refl;
+      of_all_cues = refl;
+      few_cells = omega arith;
+    }
 
 pub returns : goal.returns
 returns g c =
