@@ -1,6 +1,7 @@
 -- What the lines and words of a script stand for.
 use Rattle.std.specs.Prelude.{◌≡◌, ℕ, ◌+◌, ◌-◌, ◌*◌, ◌<◌, Bool, cond, ◌&&◌, List, [], ◌∷◌, ◌++◌, length, replicate, Some, None, Ok, Err, Option, Result, ◌==◌, nat_le, nat_lt}
 use Rattle.std.specs.Borrow.{Bor}
+use Rattle.console.specs.declared.model.Name.{Name}
 use Rattle.console.specs.declared.next.Next.{Next}
 use Rattle.console.specs.declared.next.Next.TheVariants.{Line, End, Choose, Store, Start, Stop}
 use Rattle.console.specs.declared.text.Pieces.{Pieces}
@@ -84,12 +85,28 @@ abbrev pub pieces_left : Option (Bor (List ℕ)) → ℕ
 pieces_left None = 0
 pieces_left (Some rest) = length rest.now + 1
 
+-- a model is chosen only by a line that is then used up
+abbrev pub UsesLines : {X Y : Type 0} → Result (Option X) Y → ℕ → ℕ → Type 0
+UsesLines (Ok None) earlier later = Unit {0}
+UsesLines (Ok (Some name)) earlier later = later < earlier
+UsesLines (Err error) earlier later = Unit {0}
+
+-- the model that is to come next, if one is
+abbrev pub chosen : {Y : Type 0} → Result Next Y → Result (Option Name) Y
+chosen (Ok Line) = Ok None
+chosen (Ok End) = Ok None
+chosen (Ok (Choose name)) = Ok (Some name)
+chosen (Ok (Store cues levels)) = Ok None
+chosen (Ok Start) = Ok None
+chosen (Ok Stop) = Ok None
+chosen (Err error) = Err error
+
 -- what comes next, unless the script is over, is asked for by a line that is then used up
-abbrev pub UsesLines : {E : Type 0} → Result Next E → ℕ → ℕ → Type 0
-UsesLines (Ok Line) earlier later = later < earlier
-UsesLines (Ok End) earlier later = later ≤ earlier
-UsesLines (Ok (Choose name)) earlier later = later < earlier
-UsesLines (Ok (Store cues levels)) earlier later = later < earlier
-UsesLines (Ok Start) earlier later = later < earlier
-UsesLines (Ok Stop) earlier later = later < earlier
-UsesLines (Err error) earlier later = later ≤ earlier
+abbrev pub AsksByLines : {Y : Type 0} → Result Next Y → ℕ → ℕ → Type 0
+AsksByLines (Ok Line) earlier later = later < earlier
+AsksByLines (Ok End) earlier later = Unit {0}
+AsksByLines (Ok (Choose name)) earlier later = later < earlier
+AsksByLines (Ok (Store cues levels)) earlier later = later < earlier
+AsksByLines (Ok Start) earlier later = later < earlier
+AsksByLines (Ok Stop) earlier later = later < earlier
+AsksByLines (Err error) earlier later = Unit {0}

@@ -1,5 +1,5 @@
 // Carries out the lines of a script, one after the other.
-ghost use Rattle.console.specs.Text.{pieces_left, UsesLines};
+ghost use Rattle.console.specs.Text.{pieces_left, chosen, UsesLines, AsksByLines};
 
 use crate::command::Command;
 use crate::desk::{Desk, Filled};
@@ -40,7 +40,8 @@ fn serve_named(
     name: Name,
     given: &mut usize,
 ) -> io::Result<Next>
-    ensures { UsesLines result (pieces_left lines.old.rest) (pieces_left lines.new.rest) }
+    ensures chosen { UsesLines (chosen result) (pieces_left lines.old.rest) (pieces_left lines.new.rest) }
+    ensures asked { AsksByLines result (pieces_left lines.old.rest) (pieces_left lines.new.rest) }
 {
     match name {
         Name::Rep5Three => serve_model(rt, lines, name, given, rep5_three()),
@@ -67,7 +68,8 @@ fn serve_model<M: Model + Drop>(
     given: &mut usize,
     made: Result<M, MakingRefusal>,
 ) -> io::Result<Next>
-    ensures { UsesLines result (pieces_left lines.old.rest) (pieces_left lines.new.rest) }
+    ensures chosen { UsesLines (chosen result) (pieces_left lines.old.rest) (pieces_left lines.new.rest) }
+    ensures asked { AsksByLines result (pieces_left lines.old.rest) (pieces_left lines.new.rest) }
 {
     let model = match made {
         Ok(model) => model,
@@ -95,7 +97,7 @@ fn serve_store<C: Code + Drop>(
     levels: usize,
     given: &mut usize,
 ) -> io::Result<Next>
-    ensures { UsesLines result (pieces_left lines.old.rest) (pieces_left lines.new.rest) }
+    ensures { AsksByLines result (pieces_left lines.old.rest) (pieces_left lines.new.rest) }
 {
     let store = match Plotting::new(code, cues, levels) {
         Ok(store) => store,
@@ -121,7 +123,9 @@ fn plot_and_run<C: Code + Drop>(
     rt: &HostRuntime,
     lines: &mut Pieces,
     at: AtPlotting<C>,
-) -> (AtPlotting<C>, io::Result<Next>) {
+) -> (AtPlotting<C>, io::Result<Next>)
+    ensures { AsksByLines result.1 (pieces_left lines.old.rest) (pieces_left lines.new.rest) }
+{
     let mut at = at;
     loop {
         let next = serve(rt, lines, &mut at);
@@ -192,7 +196,8 @@ fn print_refused_model(rt: &HostRuntime, why: MakingRefusal) -> io::Result<()> {
 
 /// Carries out lines until one asks for something else than the next line; End at the end of the script.
 fn serve<H: Holder>(rt: &HostRuntime, lines: &mut Pieces, holder: &mut H) -> io::Result<Next>
-    ensures { UsesLines result (pieces_left lines.old.rest) (pieces_left lines.new.rest) }
+    ensures chosen { UsesLines (chosen result) (pieces_left lines.old.rest) (pieces_left lines.new.rest) }
+    ensures asked { AsksByLines result (pieces_left lines.old.rest) (pieces_left lines.new.rest) }
 {
     while let Some(line) = lines.next() {
         if is_skipped(line) {

@@ -1,6 +1,6 @@
 -- Which check of a call applies, step by step, and what the call then comes to. Assumes nothing.
-use Rattle.std.proofs.Common.{◌≡◌, ℕ, ◌+◌, ◌*◌, ◌<◌, ◌≤◌, min, Bool, true, false, cond, not, ◌||◌, ltb, leb, List, [], ◌∷◌, map, length, replicate, Some, None, count_by, Option, sym, refl, ap, ◌∙◌, ap₂, arith}
-use Rattle.std.proofs.lemmas.Bool.{le-leb, lt-leb, le-ltb, lt-ltb, ltb-false, or_parts, cond-true, cond-false, not_from_true, not_from_false}
+use Rattle.std.proofs.Common.{◌≡◌, ℕ, ◌+◌, ◌<◌, ◌≤◌, min, Bool, true, false, not, ◌||◌, ltb, List, [], map, length, Some, None, count_by, Option, sym, ap, ◌∙◌, ap₂}
+use Rattle.std.proofs.lemmas.Bool.{le-leb, lt-leb, le-ltb, lt-ltb, ltb-false, or_parts, cond-true, cond-false}
 use Rattle.store_theory.specs.Calls.{StoreAnswer, recorded_cue_by, recorded_cue, recorded_cue_by_slip, wiped_cue_by, wiped_cue, all_levels, zeroed, TouchOutcome, touched, not_touched, touched_word, changes, is_beyond_reach, touched_up_cue_by, touched_up_cue}
 use Rattle.store_theory.specs.Checks.{refuse, absent, few_cells, few_bytes, record_check, slip_check, wipe_check, touch_check}
 use Rattle.store_theory.specs.Layout.{Plan, cell_of_word, cue_cells, cell_count, cue_words, words_of, together}
@@ -13,7 +13,7 @@ use Rattle.theory.specs.Memory.{over, cleared}
 use Rattle.theory.proofs.Memory.{cleared_there}
 use Rattle.cues.specs.Shapes.{plan_in, FitStore, Enough}
 use Rattle.cues.specs.declared.shape.Shape.{Shape}
-use Rattle.cues.proofs.Sizes.{block_is, cells_are, first_start_is}
+use Rattle.cues.proofs.Sizes.{cells_are}
 
 -- a check applies, or it passes on to what stands behind it
 module _ {X : Type 0} (by : Option ℕ → X) where

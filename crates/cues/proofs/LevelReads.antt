@@ -1,6 +1,5 @@
 -- Reading the levels of a cue out of its symbols, one after another, and the filling behind them. Assumes nothing.
-use Rattle.std.proofs.Common.{◌≡◌, ℕ, suc, ◌+◌, ◌-◌, ◌*◌, ◌<◌, ◌≤◌, min, Bool, true, false, ltb, List, [], ◌∷◌, ◌++◌, length, get_or, take, drop, set, Some, None, Option, sym, refl, ap, ◌∙◌, subst, ap₂, ⊎_elim, mul-le-mul_right, mul-le-mul_left, arith}
-use Rattle.std.specs.Option.{option_map, option_or}
+use Rattle.std.proofs.Common.{◌≡◌, ℕ, ◌+◌, ◌-◌, ◌*◌, ◌<◌, ◌≤◌, min, true, false, ltb, List, ◌++◌, length, get_or, take, drop, set, Some, None, sym, ap, ◌∙◌, subst, ap₂, ⊎_elim, mul-le-mul_right, mul-le-mul_left, arith}
 use Rattle.std.specs.Int.Digits.{number_from_digits}
 use Rattle.std.specs.List.{AllByRecursion as All}
 use Rattle.std.proofs.lemmas.Int.Digits.{number_more}
@@ -10,9 +9,8 @@ use Rattle.store_theory.specs.Calls.{first_place}
 use Rattle.store_theory.specs.Layout.{Plan, pieces, symbol_count, level_numbers, filling}
 use Rattle.store_theory.proofs.FirstPlaces.{first_place_at}
 use Rattle.store_theory.proofs.Pieces.{length_pieces}
-use Rattle.store_theory.proofs.Places.{row_inside}
 use Rattle.store_theory.proofs.Progress.{level_number}
-use Rattle.theory.specs.Alphabets.{Arithmetic, Lawful}
+use Rattle.theory.specs.Alphabets.{Arithmetic}
 use Rattle.theory.specs.Memory.{over, part}
 use Rattle.theory.proofs.Overs.{length_part, drop_over_above}
 use Rattle.cues.proofs.Messages.{set_behind}

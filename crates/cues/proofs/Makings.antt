@@ -1,5 +1,5 @@
 -- Making a store, case by case, at numbers that are asked of the code and its alphabet. Assumes nothing.
-use Rattle.std.proofs.Common.{◌≡◌, ℕ, zero, suc, ◌+◌, ◌-◌, ◌*◌, ◌/◌, ◌^◌, ◌<◌, ◌≤◌, [], sym, refl, ap, ◌∙◌, ap₂, ⊎_elim, mul-le-mul, div-le_self, arith}
+use Rattle.std.proofs.Common.{◌≡◌, ℕ, zero, suc, ◌+◌, ◌-◌, ◌*◌, ◌/◌, ◌^◌, ◌<◌, ◌≤◌, [], refl, ap, ap₂, ⊎_elim, mul-le-mul, div-le_self, arith}
 use native.Mathlib.Nat.{pow-le-pow_left, pow-zero, lt-div-mul-add}
 use Rattle.std.proofs.lemmas.Bool.{cases_lt}
 use Rattle.std.proofs.lemmas.Bool.Decides.{nat_tests}
@@ -7,7 +7,7 @@ use Rattle.parts.specs.Numbers.{NumbersOf}
 use Rattle.parts.specs.declared.numbers.Numbers.{Numbers}
 use Rattle.store_theory.specs.Calls.{store_making}
 use Rattle.store_theory.specs.Checks.{making_check}
-use Rattle.store_theory.specs.Layout.{Plan, plan_of, word_count, cell_count}
+use Rattle.store_theory.specs.Layout.{plan_of, word_count, cell_count}
 use Rattle.theory.specs.Alphabets.{Arithmetic, Lawful}
 use Rattle.theory.specs.Calls.{accepted, refused}
 use Rattle.theory.specs.Meanings.{Meaning}

@@ -1,13 +1,13 @@
 -- The message that is written symbol by symbol is the one that the definitions cut out of the symbols of all levels.
 -- Assumes nothing.
-use Rattle.std.proofs.Common.{◌≡◌, ℕ, suc, ◌+◌, ◌-◌, ◌*◌, ◌/◌, ◌%◌, ◌^◌, ◌<◌, ◌≤◌, cond, ltb, List, [], ◌∷◌, ◌++◌, map, length, get_or, take, drop, set, sym, refl, ap, ◌∙◌, ap₂, ⊎_elim, append_assoc, mul-le-mul_right, mod-lt, pow-suc, div-add-mod', div-one, arith}
+use Rattle.std.proofs.Common.{◌≡◌, ℕ, suc, ◌+◌, ◌-◌, ◌*◌, ◌/◌, ◌%◌, ◌^◌, ◌<◌, ◌≤◌, cond, ltb, List, [], ◌∷◌, ◌++◌, map, length, get_or, take, drop, set, sym, ap, ◌∙◌, ap₂, ⊎_elim, append_assoc, mul-le-mul_right, mod-lt, pow-suc, div-add-mod', div-one, arith}
 use native.Mathlib.Nat.{div-div-eq-div-mul, pow-zero}
 use Rattle.std.specs.List.{range_with_len}
 use Rattle.std.proofs.lemmas.List.FromFn.{length-map-range_with_len, get_or-map-range_with_len, map-range_with_len_more}
 use Rattle.std.proofs.lemmas.List.{ext_get_or, get_or-take, get_or-drop, get_or_past, drop_more, set_at, length-append, length-take-le}
 use Rattle.std.proofs.lemmas.Bool.{cases_lt, cond-true, cond-false, lt-ltb, le-ltb}
 use Rattle.store_theory.specs.Calls.{missing_level, all_levels}
-use Rattle.store_theory.specs.Layout.{Plan, word_count, symbol_count, filled_symbols}
+use Rattle.store_theory.specs.Layout.{Plan, word_count, filled_symbols}
 use Rattle.store_theory.proofs.Blocks.{all_levels_length}
 use Rattle.store_theory.proofs.Levels.{filled_length}
 use Rattle.store_theory.proofs.Places.{row_inside}

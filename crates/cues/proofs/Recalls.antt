@@ -1,8 +1,8 @@
 -- What a recall comes to, check by check, and once its words and levels are read. Assumes nothing.
-use Rattle.std.proofs.Common.{◌≡◌, ℕ, ◌<◌, ◌≤◌, Bool, true, false, not, ◌||◌, ltb, List, [], ◌∷◌, ◌++◌, length, drop, Some, None, Option, sym, refl, ap, ◌∙◌, ap₂}
+use Rattle.std.proofs.Common.{◌≡◌, ℕ, ◌<◌, ◌≤◌, true, false, not, ◌||◌, ltb, List, [], ◌∷◌, ◌++◌, length, drop, Some, None, Option, sym, ap, ◌∙◌, ap₂}
 use Rattle.std.proofs.lemmas.Bool.{or_from, le-ltb}
 use Rattle.store_theory.specs.Calls.{StoreAnswer, zeroed, first_place, is_beyond_reach, level_fault, shown_levels, read_words, recalled_cue_by, recalled_cue}
-use Rattle.store_theory.specs.Checks.{refuse, absent, few_bytes, recall_check}
+use Rattle.store_theory.specs.Checks.{refuse, few_bytes, recall_check}
 use Rattle.store_theory.specs.Layout.{Plan, cue_words, level_numbers}
 use Rattle.store_theory.specs.States.{State, mark_at}
 use Rattle.theory.specs.Alphabets.{Arithmetic}

@@ -1,11 +1,10 @@
 -- Mending the words of a cue, step by step: copied into the working memory, mended there, and copied back. Assumes nothing.
-use Rattle.std.proofs.Common.{◌≡◌, ℕ, ◌+◌, ◌-◌, ◌*◌, ◌<◌, ◌≤◌, Bool, true, false, cond, not, List, [], ◌∷◌, ◌++◌, map, length, get_or, take, drop, replicate, is_some, Some, None, Decides, count_by, Option, unwrap_or, sym, refl, ap, ◌∙◌, ap₂, arith}
+use Rattle.std.proofs.Common.{◌≡◌, ℕ, ◌+◌, ◌-◌, ◌*◌, ◌<◌, ◌≤◌, Bool, true, false, cond, not, List, [], ◌++◌, map, length, get_or, take, drop, replicate, is_some, Some, None, Decides, count_by, Option, unwrap_or, sym, refl, ap, ◌∙◌, ap₂, arith}
 use Rattle.std.specs.Option.{option_map}
-use Rattle.std.specs.List.{AllByRecursion as All}
 use Rattle.std.proofs.lemmas.List.{take_at, take_all, get_or-map}
 use Rattle.std.proofs.lemmas.List.Sums.{count_by_more_yes, count_by_more_no}
 use Rattle.std.proofs.lemmas.Bool.{le-leb, both_ways}
-use Rattle.store_theory.specs.Calls.{touched_word, changes, is_beyond_reach, fault_of_code, zeroed}
+use Rattle.store_theory.specs.Calls.{touched_word, fault_of_code}
 use Rattle.store_theory.specs.Layout.{word_count, cell_count, cell_of_word, cue_words, together}
 use Rattle.store_theory.proofs.Blocks.{cue_words_count, touched_count, touched_long}
 use Rattle.store_theory.proofs.Places.{word_inside, word_read}
@@ -22,7 +21,7 @@ use Rattle.theory.proofs.Reach.{found_in_reach}
 use Rattle.theory.proofs.Trips.{not_accepted}
 use Rattle.theory.proofs.Words.{same_true, same_self}
 use Rattle.cues.specs.Shapes.{plan_in, FitStore, Enough}
-use Rattle.cues.specs.Steps.{SameBehind, TouchedOne, mended_copy}
+use Rattle.cues.specs.Steps.{TouchedOne, mended_copy}
 use Rattle.cues.specs.declared.shape.Shape.{Shape}
 use Rattle.cues.proofs.Sizes.{cells_are, start_is}
 

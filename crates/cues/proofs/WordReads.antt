@@ -1,6 +1,6 @@
 -- Reading the words of a cue, step by step: all are gone over for the first beyond reach, and then each is read symbol by
 -- symbol. Assumes nothing.
-use Rattle.std.proofs.Common.{◌≡◌, ℕ, suc, ◌+◌, ◌-◌, ◌*◌, ◌/◌, ◌%◌, ◌<◌, ◌≤◌, Bool, true, false, cond, not, List, [], ◌∷◌, ◌++◌, map, length, get_or, take, drop, is_some, Some, None, Option, unwrap_or, sym, refl, ap, ◌∙◌, subst, ap₂, ⊎_elim, mod-lt, suc-mul, div-add-mod', zero-mul, arith}
+use Rattle.std.proofs.Common.{◌≡◌, ℕ, suc, ◌+◌, ◌*◌, ◌/◌, ◌%◌, ◌<◌, ◌≤◌, Bool, true, false, cond, not, List, [], ◌∷◌, map, length, get_or, take, drop, is_some, Some, None, Option, unwrap_or, sym, refl, ap, ◌∙◌, subst, ⊎_elim, mod-lt, suc-mul, div-add-mod', zero-mul, arith}
 use native.Mathlib.Nat.{zero-mod}
 use Rattle.std.specs.Option.{option_map}
 use Rattle.std.specs.List.{AllByRecursion as All}
@@ -8,15 +8,15 @@ use Rattle.std.proofs.lemmas.Nat.{div-mul-add, mod-mul-add}
 use Rattle.std.proofs.ByRecursion.{All-append, All-get_or}
 use Rattle.std.proofs.lemmas.List.{take_all, take_more, get_or-take, get_or-drop, get_or-map, length-map}
 use Rattle.std.proofs.lemmas.Bool.{cases_lt}
-use Rattle.store_theory.specs.Calls.{is_beyond_reach, first_place, symbols_found, fault_of_code, mend_fault}
-use Rattle.store_theory.specs.Layout.{word_count, cell_count, cell_of_word, cue_words, together}
+use Rattle.store_theory.specs.Calls.{is_beyond_reach, first_place}
+use Rattle.store_theory.specs.Layout.{word_count, cell_of_word, cue_words, together}
 use Rattle.store_theory.proofs.Blocks.{cue_words_count}
 use Rattle.store_theory.proofs.FirstPlaces.{none_passes, first_place_at}
 use Rattle.store_theory.proofs.Levels.{joined_map}
 use Rattle.store_theory.proofs.Pieces.{Long, length_together, part_together}
 use Rattle.store_theory.proofs.Places.{word_read}
 use Rattle.theory.specs.Alphabets.{Arithmetic, Lawful}
-use Rattle.theory.specs.Calls.{Outcome, Answer, accepted, refused, read_back}
+use Rattle.theory.specs.Calls.{Outcome, Answer, accepted, read_back}
 use Rattle.theory.specs.Meanings.{Meaning, Keeps}
 use Rattle.theory.specs.Memory.{part, settled}
 use Rattle.theory.specs.Reach.{message_in_reach}
@@ -25,8 +25,8 @@ use Rattle.theory.proofs.Calls.{paired, read_word}
 use Rattle.theory.proofs.Memory.{drop_settled, take_settled, length_settled}
 use Rattle.theory.proofs.Reach.{found_in_reach}
 use Rattle.theory.proofs.Trips.{not_accepted}
-use Rattle.cues.specs.Shapes.{plan_in, FitStore, Enough}
-use Rattle.cues.specs.Steps.{SameBehind, mended_copy, reach_outcome, AllReached, symbols_in, Loaded, ReachedAll, ReadWord}
+use Rattle.cues.specs.Shapes.{plan_in, FitStore}
+use Rattle.cues.specs.Steps.{SameBehind, mended_copy, reach_outcome, AllReached, symbols_in, Loaded, ReadWord}
 use Rattle.cues.specs.declared.shape.Shape.{Shape}
 
 -- where none passes, every one fails

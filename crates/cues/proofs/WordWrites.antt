@@ -1,5 +1,5 @@
 -- Writing the words of a cue, step by step. Assumes nothing.
-use Rattle.std.proofs.Common.{◌≡◌, ℕ, ◌+◌, ◌*◌, ◌<◌, ◌≤◌, List, [], ◌∷◌, ◌++◌, length, get_or, take, drop, replicate, sym, refl, ap, ◌∙◌, subst, ap₂, arith}
+use Rattle.std.proofs.Common.{◌≡◌, ℕ, ◌+◌, ◌*◌, ◌<◌, ◌≤◌, List, [], ◌++◌, length, get_or, take, drop, replicate, sym, ap, ◌∙◌, subst, ap₂, arith}
 use Rattle.std.specs.List.{AllByRecursion as All}
 use Rattle.std.proofs.ByRecursion.{All-get_or}
 use Rattle.std.proofs.lemmas.List.{take_at, take_all}
@@ -14,13 +14,13 @@ use Rattle.store_theory.proofs.Progress.{word_of_levels, word_more, over_nothing
 use Rattle.theory.specs.Alphabets.{Arithmetic, Lawful}
 use Rattle.theory.specs.Calls.{Outcome, Answer, accepted, sent}
 use Rattle.theory.specs.Meanings.{Meaning, Keeps}
-use Rattle.theory.specs.Memory.{over, part, settled, copied, cleared}
+use Rattle.theory.specs.Memory.{over, settled, copied, cleared}
 use Rattle.theory.specs.Words.{Symbols}
 use Rattle.theory.proofs.Calls.{paired, sent_message}
 use Rattle.theory.proofs.Memory.{drop_settled, take_settled, length_settled, copied_there}
 use Rattle.theory.proofs.Overs.{length_over, drop_over_above}
 use Rattle.cues.specs.Shapes.{plan_in, FitStore, Enough}
-use Rattle.cues.specs.Steps.{message_in, SameBehind, WroteWord, WroteWords}
+use Rattle.cues.specs.Steps.{message_in, SameBehind}
 use Rattle.cues.specs.declared.shape.Shape.{Shape}
 use Rattle.cues.proofs.Messages.{message_is}
 use Rattle.cues.proofs.Sizes.{cells_are, start_is}

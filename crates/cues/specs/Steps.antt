@@ -1,5 +1,5 @@
 -- What the steps of the calls come to: one symbol, one word, one level, and all of them.
-use Rattle.std.specs.Prelude.{◌≡◌, ℕ, ◌+◌, ◌-◌, ◌*◌, ◌/◌, ◌%◌, ◌^◌, min, Bool, cond, ltb, List, [], ◌∷◌, ◌++◌, map, length, take, drop, Some, None, Ok, count_by, Option, Result, ◌≢◌, nat_lt, slice_index, slice_index_or}
+use Rattle.std.specs.Prelude.{◌≡◌, ℕ, ◌+◌, ◌-◌, ◌*◌, ◌/◌, ◌%◌, ◌^◌, min, cond, ltb, List, [], ◌∷◌, ◌++◌, map, take, drop, Some, None, Ok, count_by, Option, Result, ◌≢◌, nat_lt, slice_index, slice_index_or}
 use Rattle.std.specs.List.{range_with_len}
 use Rattle.std.specs.Option.{option_map}
 use Rattle.store_theory.specs.Calls.{missing_level, all_levels, touched_word, changes, is_beyond_reach, first_place, symbols_found, level_fault, mend_fault, fault_of_code, zeroed}
@@ -8,7 +8,6 @@ use Rattle.theory.specs.Alphabets.{Arithmetic}
 use Rattle.theory.specs.Calls.{Outcome, accepted, refused}
 use Rattle.theory.specs.Meanings.{Meaning}
 use Rattle.theory.specs.Memory.{over, part, settled}
-use Rattle.theory.specs.Reach.{message_in_reach}
 use Rattle.cues.specs.declared.refusals.StoreRefusal.{StoreRefusal}
 use Rattle.cues.specs.declared.shape.Shape.{Shape}
 

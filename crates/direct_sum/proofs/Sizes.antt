@@ -3,7 +3,7 @@ use Rattle.std.proofs.Common.{◌≡◌, ℕ, ◌+◌, ◌-◌, ◌<◌, ◌≤�
 use Rattle.parts.specs.Numbers.{NumbersOf}
 use Rattle.parts.specs.declared.numbers.Numbers.{Numbers}
 use Rattle.theory.specs.Alphabets.{Arithmetic}
-use Rattle.theory.specs.Calls.{Outcome, Answer, accepted, refused, first_mark, sent, mended, read_back}
+use Rattle.theory.specs.Calls.{Outcome, accepted, refused, first_mark, sent, mended, read_back}
 use Rattle.theory.specs.Joins.{direct_sum}
 use Rattle.theory.specs.Meanings.{Meaning}
 use Rattle.theory.specs.Memory.{part, cleared, gathered}

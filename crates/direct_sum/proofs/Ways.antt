@@ -1,5 +1,5 @@
 -- The calls of the sum at the numbers that it keeps. Assumes nothing.
-use Rattle.std.proofs.Common.{◌≡◌, ℕ, ◌+◌, ◌-◌, ◌≤◌, List, [], sym, ap, ◌∙◌, subst, arith}
+use Rattle.std.proofs.Common.{◌≡◌, ℕ, ◌+◌, ◌-◌, List, [], sym, ap, ◌∙◌, subst, arith}
 use Rattle.theory.specs.Alphabets.{Arithmetic, Lawful}
 use Rattle.theory.specs.Calls.{accepted, refused}
 use Rattle.theory.specs.Joins.{direct_sum}
@@ -8,7 +8,7 @@ use Rattle.theory.specs.Memory.{cleared, gathered}
 use Rattle.theory.proofs.Calls.{paired}
 use Rattle.theory.proofs.SumCalls.{sum_sends, sum_mends_parts, none_by_left, none_by_right, none_by_toll, sum_refuses, sum_mends, tolls_stand}
 use Rattle.theory.proofs.SumReads.{sum_reads_parts, no_word_by_left, no_word_by_right, sum_reads_no_word, sum_reads}
-use Rattle.direct_sum.proofs.Sizes.{Sizes, sizes_of, Sends, whole_toll, MendWays, Mends, ReadWays, Reads}
+use Rattle.direct_sum.proofs.Sizes.{Sizes, sizes_of, Sends, whole_toll, Mends, Reads}
 
 module _ (A : Arithmetic) (laws : Lawful A) (u v : Meaning) (keeps-u : Keeps A u) (keeps-v : Keeps A v) (z : Sizes) (same : sizes_of u v ≡ z) where
   pub sends : Sends A u v z

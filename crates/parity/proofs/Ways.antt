@@ -1,10 +1,10 @@
 -- The calls of the parity code, way by way. Assumes nothing.
-use Rattle.std.proofs.Common.{◌≡◌, ℕ, suc, ◌+◌, ◌-◌, ◌*◌, ◌<◌, ◌≤◌, ◌⊎◌, List, [], ◌∷◌, ◌++◌, length, take, drop, set, replicate, Some, None, sym, refl, ap, ◌∙◌, subst, ⊎_elim, arith, length-append, length-set}
+use Rattle.std.proofs.Common.{◌≡◌, ℕ, suc, ◌+◌, ◌-◌, ◌<◌, ◌≤◌, List, [], ◌∷◌, ◌++◌, length, take, drop, set, replicate, Some, None, sym, ap, ◌∙◌, subst, arith, length-append, length-set}
 use Rattle.std.specs.List.{AllByRecursion as All}
 use Rattle.std.proofs.ByRecursion.{All-take}
 use Rattle.std.proofs.lemmas.List.{length-take-le, take-append-drop, set-append_left, set_split, take-take, append_assoc}
 use Rattle.theory.specs.Alphabets.{Arithmetic, Lawful, minus}
-use Rattle.theory.specs.Calls.{Outcome, accepted, refused, first_mark, sent, mended, read_back}
+use Rattle.theory.specs.Calls.{accepted, refused, first_mark, sent, mended, read_back}
 use Rattle.theory.specs.Meanings.{Keeps}
 use Rattle.theory.specs.Memory.{over, settled}
 use Rattle.theory.specs.Parity.{total, parity}

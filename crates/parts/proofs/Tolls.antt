@@ -1,8 +1,7 @@
 -- Damage that was counted on lent parts of one memory, as a toll. Assumes nothing.
-use Rattle.std.proofs.Common.{◌≡◌, ℕ, ◌+◌, ◌-◌, ◌*◌, ◌≤◌, Bool, true, ◌&&◌, ltb, leb, List, length, take, drop, sym, ap, ◌∙◌, ap₂, arith}
+use Rattle.std.proofs.Common.{◌≡◌, ℕ, ◌+◌, ◌-◌, ◌*◌, ◌≤◌, Bool, true, ◌&&◌, ltb, leb, List, length, take, drop, sym, ◌∙◌, ap₂, arith}
 use Rattle.std.proofs.lemmas.Bool.{le-leb, and_from}
-use Rattle.parts.specs.Nearness.{is_placed, placed_toll, both_near}
-use Rattle.parts.specs.declared.placed.Placed.{Placed}
+use Rattle.parts.specs.Nearness.{is_placed, both_near}
 use Rattle.theory.specs.Memory.{part}
 use Rattle.theory.specs.Words.{wrong, marked, toll}
 use Rattle.theory.proofs.Overs.{length_part}

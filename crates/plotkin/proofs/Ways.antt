@@ -1,5 +1,5 @@
 -- The calls of the join at the numbers that it keeps. Assumes nothing.
-use Rattle.std.proofs.Common.{◌≡◌, ℕ, ◌*◌, min, sym, subst, ap₂}
+use Rattle.std.proofs.Common.{◌≡◌, ◌*◌, min, sym, subst}
 use Rattle.parts.specs.Numbers.{NumbersOf}
 use Rattle.parts.specs.declared.numbers.Numbers.{Numbers}
 use Rattle.plotkin.specs.Kept.{kept}

@@ -1,21 +1,20 @@
 -- The calls of the repetition code, way by way. Assumes nothing.
-use Rattle.std.proofs.Common.{◌≡◌, ℕ, ◌+◌, ◌-◌, ◌*◌, ◌<◌, ◌≤◌, true, false, ltb, List, [], ◌∷◌, ◌++◌, length, get_or, take, replicate, Some, None, sym, refl, ap, ◌∙◌, subst, arith}
+use Rattle.std.proofs.Common.{◌≡◌, ℕ, ◌+◌, ◌-◌, ◌<◌, ◌≤◌, List, [], ◌∷◌, ◌++◌, length, get_or, take, replicate, Some, sym, refl, ap, ◌∙◌, subst, arith}
 use borrow.Rule.Slice.PartMut.{post_of}
 use lib.ListN.{length-replicate}
 use Rattle.std.specs.List.{AllByRecursion as All}
 use Rattle.std.proofs.lemmas.List.{length-take-le, get_or-take, get_or-replicate}
 use Rattle.std.proofs.ByRecursion.{All-get_or}
 use Rattle.theory.specs.Alphabets.{Arithmetic}
-use Rattle.theory.specs.Calls.{Outcome, accepted, refused, sent, mended, read_back}
-use Rattle.theory.specs.Meanings.{Meaning, Keeps}
-use Rattle.theory.specs.Memory.{over, settled, cleared}
-use Rattle.theory.specs.Reach.{InReach}
+use Rattle.theory.specs.Calls.{accepted, refused, sent, mended, read_back}
+use Rattle.theory.specs.Meanings.{Keeps}
+use Rattle.theory.specs.Memory.{settled, cleared}
 use Rattle.theory.specs.Repetition.{repetition}
 use Rattle.theory.specs.Words.{Symbols, marked, toll}
 use Rattle.theory.proofs.Calls.{paired, sent_by_lem, sent_message, mended_reach, mended_none, read_word, read_none, first_mark_at}
 use Rattle.theory.proofs.Counts.{symbols_from_unmarked}
 use Rattle.theory.proofs.Memory.{front_is, front_fill, settled_full, settled_found, settled_over, cleared_there}
-use Rattle.theory.proofs.Repetition.{repetition_keeps, one_symbol, all_replicate}
+use Rattle.theory.proofs.Repetition.{repetition_keeps}
 use Rattle.theory.proofs.Words.{same_from_no_toll, toll_self}
 use Rattle.std.proofs.lemmas.Bool.{le-leb}
 

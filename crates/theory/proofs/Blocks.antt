@@ -1,6 +1,6 @@
 -- Memory as a word in front, three blocks behind it, and a rest: what stands where, and what writes and clearings leave.
 -- Assumes nothing.
-use Rattle.std.proofs.Common.{◌≡◌, ℕ, ◌+◌, ◌-◌, ◌≤◌, List, ◌++◌, length, take, drop, replicate, sym, refl, ap, ◌∙◌, ap₂, append_assoc, arith, length-append, length-drop, length-take}
+use Rattle.std.proofs.Common.{◌≡◌, ℕ, ◌+◌, ◌-◌, ◌≤◌, List, ◌++◌, length, take, drop, replicate, sym, ap, ◌∙◌, ap₂, append_assoc, arith, length-append}
 use Rattle.std.proofs.lemmas.List.{take_at, drop_at, take-append-le, take-append-drop, drop-drop, drop-take}
 use Rattle.std.proofs.lemmas.Bool.{le-leb}
 use Rattle.theory.specs.Memory.{over, part, settled, cleared, gathered}

@@ -1,16 +1,16 @@
 -- The calls of a code, case by case. Assumes nothing.
-use Rattle.std.proofs.Common.{◌≡◌, ℕ, zero, suc, ◌+◌, ◌*◌, ◌<◌, ◌≤◌, Bool, true, false, cond, ltb, List, [], ◌∷◌, ◌++◌, length, get_or, take, Some, None, Option, sym, refl, ap, ◌∙◌, arith, length-take}
+use Rattle.std.proofs.Common.{◌≡◌, ℕ, zero, suc, ◌*◌, ◌<◌, ◌≤◌, Bool, true, false, cond, ltb, List, [], ◌∷◌, ◌++◌, length, get_or, take, Some, None, Option, sym, refl, ap, ◌∙◌, arith}
 use Rattle.std.specs.Option.{option_map}
 use Rattle.std.specs.List.{AllByRecursion as All}
 use Rattle.std.proofs.lemmas.List.{length-take-le}
-use Rattle.std.proofs.lemmas.Bool.{lt-ltb, le-ltb, ltb-true, ltb-false, cond-true, cond-false}
+use Rattle.std.proofs.lemmas.Bool.{lt-ltb, le-ltb, ltb-true, cond-true, cond-false}
 use Rattle.theory.specs.Alphabets.{Arithmetic}
 use Rattle.theory.specs.Calls.{Outcome, Answer, accepted, refused, first_mark, sent_by, sent, mended_by, mended, read_by, read_back, shown}
 use Rattle.theory.specs.Meanings.{Meaning, Keeps}
 use Rattle.theory.specs.Memory.{settled}
 use Rattle.theory.specs.Reach.{InReach, message_in_reach, message_of_word}
 use Rattle.theory.specs.Words.{Symbols}
-use Rattle.theory.proofs.Reach.{found_in_reach, none_in_reach, in_reach_found, read_is_word, none_has_word, own_word_found}
+use Rattle.theory.proofs.Reach.{found_in_reach, in_reach_found, read_is_word, own_word_found}
 
 -- an outcome and the memory with it
 abbrev pub paired : Outcome → List ℕ → Answer

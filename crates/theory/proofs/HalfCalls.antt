@@ -1,18 +1,16 @@
 -- The memory of a Plotkin join while it mends, and what it holds once u was looked for. Assumes nothing.
-use Rattle.std.proofs.Common.{◌≡◌, ℕ, ◌+◌, ◌-◌, ◌*◌, ◌<◌, ◌≤◌, min, Bool, true, false, ltb, ◌⊎◌, List, [], ◌∷◌, ◌++◌, length, take, drop, replicate, Some, None, Option, sym, refl, ap, ◌∙◌, subst, ap₂, inl, inr, ⊎_elim, arith, length-drop, length-take}
+use Rattle.std.proofs.Common.{◌≡◌, ℕ, ◌+◌, ◌*◌, ◌<◌, ◌≤◌, min, ◌⊎◌, List, [], ◌∷◌, length, take, drop, sym, refl, ap, ◌∙◌, ap₂, inr, arith}
 use Rattle.std.specs.List.{AllByRecursion as All}
-use Rattle.std.proofs.lemmas.List.{length-take-le, take_all, take_at, take-take, drop-take}
-use Rattle.std.proofs.lemmas.Bool.{ltb-true, ltb-false, lt-ltb, le-ltb, cond-true, and_from, cases_lt}
-use Rattle.theory.specs.Alphabets.{Arithmetic, Lawful, plus, minus}
-use Rattle.theory.specs.Calls.{Outcome, Answer, accepted, refused, mended}
+use Rattle.std.proofs.lemmas.List.{length-take-le, take_all, take-take, drop-take}
+use Rattle.theory.specs.Alphabets.{Arithmetic, Lawful, plus}
+use Rattle.theory.specs.Calls.{mended}
 use Rattle.theory.specs.Combining.{combined}
-use Rattle.theory.specs.Halves.{Halves, byte_less, whole_toll, tried_by, tried, sought_by, sought}
+use Rattle.theory.specs.Halves.{Halves, byte_less}
 use Rattle.theory.specs.Joins.{zipped, sums, less}
 use Rattle.theory.specs.Meanings.{Meaning, Keeps}
 use Rattle.theory.specs.Memory.{over, part}
 use Rattle.theory.specs.Parts.{call_in_part}
 use Rattle.theory.specs.Reach.{message_in_reach}
-use Rattle.theory.specs.Words.{Symbols, toll}
 use Rattle.theory.proofs.Blocks.{blocks, as_blocks, length_blocks, at_front, at_first, at_second, at_third, over_first, over_second, over_third}
 use Rattle.theory.proofs.Calls.{paired}
 use Rattle.theory.proofs.Combining.{combined_is}
@@ -20,8 +18,6 @@ use Rattle.theory.proofs.Groups.{plus_symbols}
 use Rattle.theory.proofs.Overs.{length_part}
 use Rattle.theory.proofs.PartCalls.{fresh, length_fresh, mend_result, mend_outcome, mend_result_long, mended_result}
 use Rattle.theory.proofs.Pointwise.{length_zipped}
-use Rattle.theory.proofs.Reach.{found_in_reach}
-use Rattle.theory.proofs.TwoCalls.{take_fresh}
 
 abbrev pub halves_of : Meaning → Meaning → Halves
 halves_of u v = record { n = u.n; ku = u.k; kv = v.k; wu = u.w; wv = v.w; d = min (2 * u.d) v.d }

@@ -1,5 +1,5 @@
 -- A making as one step of a pile, and the makings of a Plotkin join. Assumes nothing.
-use Rattle.std.proofs.Common.{◌≡◌, ℕ, ◌+◌, ◌*◌, ◌<◌, ◌≤◌, cond, eqb, leb, sym, ap, ◌∙◌, ap₂}
+use Rattle.std.proofs.Common.{◌≡◌, ◌+◌, ◌*◌, ◌<◌, ◌≤◌, cond, eqb, leb, sym, ◌∙◌, ap₂}
 use Rattle.std.proofs.lemmas.Bool.{eq-eqb, ne_eqb, le-leb, lt-leb, cond-true, cond-false}
 use Rattle.theory.specs.Alphabets.{Arithmetic}
 use Rattle.theory.specs.Joins.{plotkin, plotkin_making}

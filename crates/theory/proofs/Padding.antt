@@ -1,7 +1,7 @@
 -- A pair that a part has shown, moved apart and filled up with zeros. Assumes nothing.
 use Rattle.std.proofs.Common.{◌≡◌, ℕ, ◌+◌, ◌-◌, ◌*◌, ◌/◌, ◌<◌, ◌≤◌, Bool, true, false, ◌&&◌, leb, List, [], ◌++◌, length, take, drop, replicate, sym, ap, ◌∙◌, subst, ap₂, ⊎_elim, append_assoc, arith, lit<, length-append}
 use native.Mathlib.Nat.{mul-div-le, mul-div_cancel_left}
-use borrow.Rule.Slice.PartMut.{put_mid, post_of}
+use borrow.Rule.Slice.PartMut.{post_of}
 use lib.ListN.{length-replicate}
 use Rattle.std.proofs.lemmas.List.{take_at, drop_at, take_all, length-take-le, replicate-append-replicate, take-append-drop, take-take, drop-take, append-nil}
 use Rattle.std.proofs.lemmas.Bool.{le-leb, lt-leb, leb-true, and_parts, and_from, and_left, and_right, cond-true, cond-false, cases_lt}
@@ -12,7 +12,7 @@ use Rattle.theory.specs.Padding.{padded, shown_padded}
 use Rattle.theory.specs.Piles.{Pair, pair_of_parts}
 use Rattle.theory.proofs.Calls.{paired, shown_pair, shown_short}
 use Rattle.theory.proofs.Memory.{moved_there, cleared_there, settled_over, put_mid_over, front_is}
-use Rattle.theory.proofs.Overs.{length_over, take_over_below, part_over, part_above, part_below, drop_over_above, settled_part}
+use Rattle.theory.proofs.Overs.{length_over, part_over, part_above, part_below, drop_over_above, settled_part}
 
 -- what was written, with all that lies below it
 pub take_over : (xs : List ℕ) (a : ℕ) (ys : List ℕ) → a + length ys ≤ length xs → take (a + length ys) (over xs a ys) ≡ take a xs ++ ys

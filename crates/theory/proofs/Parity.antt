@@ -1,9 +1,9 @@
 -- The parity code keeps its meaning, and its words are the lists of symbols whose sum is 0. Assumes nothing.
-use Rattle.std.proofs.Common.{◌≡◌, ℕ, zero, suc, ◌+◌, ◌-◌, ◌<◌, ◌≤◌, false, ◌&&◌, eqb, ltb, leb, ◌⊎◌, List, [], ◌∷◌, ◌++◌, length, get_or, take, replicate, Some, None, sym, refl, ap, ◌∙◌, subst, ⊎_elim, arith, length-append}
+use Rattle.std.proofs.Common.{◌≡◌, ℕ, suc, ◌+◌, ◌-◌, ◌<◌, ◌≤◌, false, ◌&&◌, ltb, leb, ◌⊎◌, List, [], ◌∷◌, ◌++◌, length, get_or, take, replicate, Some, None, sym, ap, ◌∙◌, ⊎_elim, arith, length-append}
 use lib.ListN.{length-replicate}
 use Rattle.std.specs.List.{AllByRecursion as All}
 use Rattle.std.proofs.ByRecursion.{All-append, All-take, All-get_or}
-use Rattle.std.proofs.lemmas.List.{get_or_append_left, length-take-le, take_more, take_all}
+use Rattle.std.proofs.lemmas.List.{get_or_append_left, take_more, take_all}
 use Rattle.std.proofs.lemmas.Bool.{ltb-true, le-ltb, cond-true, cond-false, and_from, and_left, and_right, le-leb, lt-leb, cases_eq, cases_lt}
 use Rattle.std.proofs.lemmas.Bool.Decides.{nat_tests}
 use Rattle.theory.specs.Alphabets.{Arithmetic, Lawful}
@@ -12,7 +12,7 @@ use Rattle.theory.specs.Pairs.{AtDistance}
 use Rattle.theory.specs.Parity.{total, parity, parity_making}
 use Rattle.theory.specs.Words.{Symbols, differ}
 use Rattle.theory.proofs.Carriers.{carrier_there}
-use Rattle.theory.proofs.Groups.{cancel_left, cancel_right, negative_is, add_zero_right, total_closed, total_push, zero_symbol}
+use Rattle.theory.proofs.Groups.{cancel_left, cancel_right, negative_is, total_closed, total_push, zero_symbol}
 use Rattle.theory.proofs.Repetition.{all_replicate}
 use Rattle.theory.proofs.Words.{differ_append, differ_self, same_from_no_difference}
 

@@ -1,5 +1,5 @@
 -- Send, mend and read of a code in a part of W bytes: the result in front of the part, and zeros behind it. Assumes nothing.
-use Rattle.std.proofs.Common.{◌≡◌, ℕ, ◌+◌, ◌-◌, ◌<◌, ◌≤◌, List, [], ◌∷◌, ◌++◌, length, take, drop, replicate, Some, None, Option, sym, refl, ap, ◌∙◌, subst, ap₂, arith, length-append}
+use Rattle.std.proofs.Common.{◌≡◌, ℕ, ◌+◌, ◌-◌, ◌<◌, ◌≤◌, List, [], ◌++◌, length, take, drop, replicate, Some, None, Option, sym, refl, ap, ◌∙◌, subst, arith, length-append}
 use lib.ListN.{length-replicate}
 use Rattle.std.specs.List.{AllByRecursion as All}
 use Rattle.std.proofs.lemmas.List.{take-take, take_all}
@@ -7,7 +7,7 @@ use Rattle.std.proofs.lemmas.Bool.{le-leb}
 use Rattle.theory.specs.Alphabets.{Arithmetic}
 use Rattle.theory.specs.Calls.{Outcome, Answer, accepted, refused, sent, mended, read_back}
 use Rattle.theory.specs.Meanings.{Meaning, Keeps}
-use Rattle.theory.specs.Memory.{over, part, settled, moved}
+use Rattle.theory.specs.Memory.{over, part, settled}
 use Rattle.theory.specs.Parts.{Call, in_part, call_in_part}
 use Rattle.theory.specs.Reach.{message_in_reach, message_of_word}
 use Rattle.theory.specs.Words.{Symbols}

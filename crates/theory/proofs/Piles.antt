@@ -1,11 +1,11 @@
 -- Every pile keeps its meaning, and the pair that it shows is at the distance: both by induction on the pile. Assumes nothing.
-use Rattle.std.proofs.Common.{◌≡◌, ℕ, ◌+◌, ◌*◌, ◌<◌, ◌≤◌, Bool, true, false, cond, eqb, ltb, leb, List, Some, None, Option, sym, refl, ap, ◌∙◌, subst, arith}
+use Rattle.std.proofs.Common.{◌≡◌, ℕ, ◌+◌, ◌*◌, ◌<◌, ◌≤◌, Bool, true, false, eqb, ltb, leb, Some, None, Option, sym, refl, ap, ◌∙◌, subst, arith}
 use Rattle.std.proofs.lemmas.Bool.{ltb-true, leb-true, eqb-true}
 use Rattle.theory.specs.Alphabets.{Arithmetic, Lawful}
 use Rattle.theory.specs.Joins.{plotkin, direct_sum, puncture, shorten, unless, plotkin_making, direct_sum_making, puncture_making, shorten_making_by, shorten_making}
 use Rattle.theory.specs.Meanings.{Meaning, Keeps, Making, made, refused_making}
 use Rattle.theory.specs.Pairs.{AtDistance}
-use Rattle.theory.specs.Piles.{Pile, leaf, plotkin_of, sum_of, puncture_at, shorten_at, made_of, making_of, LeavesKeep, EveryPileKeepsItsMeaning, ShowingPile, showing_leaf, showing_plotkin, showing_sum, pile_of, Pair, pair_by, plotkin_pair, sum_pair, pair_of, LeavesShow, ShownPairIsAtTheDistance}
+use Rattle.theory.specs.Piles.{leaf, plotkin_of, sum_of, puncture_at, shorten_at, made_of, making_of, LeavesKeep, EveryPileKeepsItsMeaning, ShowingPile, showing_leaf, showing_plotkin, showing_sum, pile_of, Pair, pair_by, plotkin_pair, sum_pair, pair_of, LeavesShow, ShownPairIsAtTheDistance}
 use Rattle.theory.proofs.DirectSum.{direct_sum_keeps, direct_sum_shows}
 use Rattle.theory.proofs.Plotkin.{plotkin_keeps, plotkin_shows}
 use Rattle.theory.proofs.Puncture.{puncture_keeps}

@@ -1,5 +1,5 @@
 -- Plotkin's join keeps its meaning, and shows a pair if its parts do. Assumes nothing.
-use Rattle.std.proofs.Common.{◌≡◌, ℕ, ◌+◌, ◌*◌, ◌<◌, ◌≤◌, min, Bool, true, false, cond, ltb, leb, ◌⊎◌, List, ◌++◌, length, get_or, take, drop, replicate, Some, None, sym, refl, ap, ◌∙◌, ap₂, ⊎_elim, arith}
+use Rattle.std.proofs.Common.{◌≡◌, ℕ, ◌+◌, ◌*◌, ◌<◌, ◌≤◌, min, Bool, true, false, ltb, leb, List, ◌++◌, length, take, drop, replicate, None, sym, refl, ap, ◌∙◌, ap₂, ⊎_elim, arith}
 use Rattle.std.proofs.lemmas.List.{get_or_append_left, get_or-take, take_at, drop_at, append_cancel_left, append_cancel_right}
 use Rattle.std.proofs.lemmas.Bool.{ltb-true, le-ltb, leb-true, leb-false, cond-false}
 use Rattle.theory.specs.Alphabets.{Arithmetic, Lawful}

@@ -1,8 +1,7 @@
 -- Mend of a Plotkin join, way by way: v from the difference of the halves, then u from the left half or from the right half
 -- less v, each find tested by the toll of the whole word. Assumes nothing.
-use Rattle.std.proofs.Common.{◌≡◌, ℕ, ◌+◌, ◌-◌, ◌*◌, ◌<◌, ◌≤◌, min, Bool, true, false, ◌⊎◌, List, [], ◌++◌, length, take, drop, replicate, Some, None, Option, sym, refl, ap, ◌∙◌, subst, ap₂, inl, inr, ⊎_elim, arith}
+use Rattle.std.proofs.Common.{◌≡◌, ℕ, ◌+◌, ◌-◌, ◌*◌, ◌≤◌, Bool, true, false, List, [], ◌++◌, length, take, drop, replicate, Some, Option, sym, ap, ◌∙◌, subst, ap₂, ⊎_elim, arith}
 use Rattle.std.proofs.lemmas.List.{take_all, take_at, drop_at, take-take, drop-take, take-append-drop}
-use Rattle.std.proofs.lemmas.Bool.{both_ways}
 use Rattle.theory.specs.Alphabets.{Arithmetic, Lawful}
 use Rattle.theory.specs.Calls.{Outcome, Answer, accepted, refused, mended}
 use Rattle.theory.specs.Combining.{combined}
@@ -22,7 +21,7 @@ use Rattle.theory.proofs.Reach.{found_in_reach, in_reach_found}
 use Rattle.theory.proofs.Reaches.{toll_append, plotkin_reaches_right, plotkin_reaches_left}
 use Rattle.theory.proofs.Seeking.{answered, right_part_lem, long_right_part, right_half, whole_cost, Hit, Far, Kept, right_less, SeekWays, seek}
 use Rattle.theory.proofs.TwoCalls.{take_fresh}
-use Rattle.theory.proofs.Symbols.{symbols_take, symbols_drop, symbols_append}
+use Rattle.theory.proofs.Symbols.{symbols_take, symbols_append}
 
 module _ (A : Arithmetic) (u v : Meaning) where
   -- the ways of a mend once V has answered

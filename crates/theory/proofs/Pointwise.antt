@@ -1,13 +1,11 @@
 -- Sums and differences of words, place by place. All rests on cancellation. Assumes nothing.
-use Rattle.std.proofs.Common.{◌≡◌, ℕ, suc, ◌+◌, ◌*◌, ◌<◌, ◌≤◌, cond, eqb, ltb, ◌⊎◌, List, [], ◌∷◌, length, sym, refl, ap, ◌∙◌, ⊎_elim, arith}
+use Rattle.std.proofs.Common.{◌≡◌, ℕ, suc, ◌+◌, ◌<◌, ◌≤◌, List, [], ◌∷◌, length, sym, refl, ap, ◌∙◌, arith}
 use Rattle.std.specs.List.{AllByRecursion as All}
-use Rattle.std.proofs.lemmas.Bool.{le-ltb, lt-ltb, cond-true, cond-false, and_left, and_right, cases_lt}
 use Rattle.std.proofs.lemmas.Bool.Decides.{nat_tests}
-use Rattle.theory.specs.Alphabets.{Arithmetic, Lawful, plus, minus}
-use Rattle.theory.specs.Joins.{zipped, sums, less}
-use Rattle.theory.specs.Words.{differ, toll}
-use Rattle.theory.proofs.Groups.{cancel_left, cancel_right, plus_symbols, minus_symbol, neg_add, add_zero_right}
-use Rattle.theory.proofs.Words.{cost, toll_cons}
+use Rattle.theory.specs.Alphabets.{Arithmetic, Lawful}
+use Rattle.theory.specs.Joins.{zipped, sums}
+use Rattle.theory.specs.Words.{differ}
+use Rattle.theory.proofs.Groups.{cancel_left, cancel_right}
 
 pub length_zipped : (f : ℕ → ℕ → ℕ) (xs ys : List ℕ) → length xs ≡ length ys → length (zipped f xs ys) ≡ length xs
 length_zipped f [] ys e = refl

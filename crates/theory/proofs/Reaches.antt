@@ -1,13 +1,13 @@
 -- What a join's reach says of its parts' reaches: the facts about tolls that the joins' mends rest on. Assumes nothing.
-use Rattle.std.proofs.Common.{◌≡◌, ℕ, suc, ◌+◌, ◌*◌, ◌<◌, ◌≤◌, min, cond, eqb, ltb, ◌⊎◌, List, [], ◌∷◌, ◌++◌, length, take, drop, sym, refl, ap, ◌∙◌, inl, inr, ⊎_elim, arith}
+use Rattle.std.proofs.Common.{◌≡◌, ℕ, ◌+◌, ◌<◌, ◌≤◌, ◌⊎◌, List, [], ◌∷◌, ◌++◌, length, take, drop, sym, refl, ap, ◌∙◌, inl, inr, ⊎_elim, arith}
 use Rattle.std.specs.List.{AllByRecursion as All}
-use Rattle.std.proofs.lemmas.Bool.{le-ltb, lt-ltb, cond-true, cond-false, and_left, and_right, cases_lt}
+use Rattle.std.proofs.lemmas.Bool.{cases_lt}
 use Rattle.std.proofs.lemmas.Bool.Decides.{nat_tests}
 use Rattle.theory.specs.Alphabets.{Arithmetic, Lawful, plus, minus}
 use Rattle.theory.specs.Joins.{sums, less, plotkin, direct_sum}
 use Rattle.theory.specs.Meanings.{Meaning, Keeps}
 use Rattle.theory.specs.Reach.{InReach}
-use Rattle.theory.specs.Words.{Symbols, wrong, marked, toll}
+use Rattle.theory.specs.Words.{Symbols, toll}
 use Rattle.theory.proofs.Counts.{marked_append, wrong_append}
 use Rattle.theory.proofs.Differences.{less_symbols, less_mark, add_less, less_add}
 use Rattle.theory.proofs.Symbols.{symbols_take, symbols_drop}

@@ -1,5 +1,5 @@
 -- The repetition code keeps its meaning. Assumes nothing.
-use Rattle.std.proofs.Common.{◌≡◌, ℕ, zero, suc, ◌+◌, ◌<◌, ◌≤◌, false, ◌&&◌, eqb, leb, ◌⊎◌, List, [], ◌∷◌, length, get_or, replicate, Some, None, sym, refl, ap, ◌∙◌, ⊎_elim, arith}
+use Rattle.std.proofs.Common.{◌≡◌, ℕ, zero, suc, ◌<◌, ◌≤◌, false, ◌&&◌, eqb, leb, ◌⊎◌, List, [], ◌∷◌, length, get_or, replicate, Some, None, sym, refl, ap, ◌∙◌, ⊎_elim, arith}
 use lib.ListN.{length-replicate}
 use Rattle.std.specs.List.{AllByRecursion as All}
 use Rattle.std.proofs.ByRecursion.{All-get_or}
@@ -10,7 +10,7 @@ use Rattle.theory.specs.Alphabets.{Arithmetic}
 use Rattle.theory.specs.Meanings.{Keeps, made, refused_making}
 use Rattle.theory.specs.Pairs.{AtDistance}
 use Rattle.theory.specs.Repetition.{repetition, repetition_making}
-use Rattle.theory.specs.Words.{Symbols, differ}
+use Rattle.theory.specs.Words.{differ}
 use Rattle.theory.proofs.Carriers.{carrier_there}
 
 pub all_replicate : (P : ℕ → Type 0) (n x : ℕ) → P x → All P (replicate n x)

@@ -1,5 +1,5 @@
 -- A search through all messages finds the word in reach. Assumes nothing.
-use Rattle.std.proofs.Common.{◌≡◌, ℕ, zero, suc, ◌+◌, ◌*◌, ◌/◌, ◌%◌, ◌^◌, ◌<◌, ◌≤◌, List, [], ◌∷◌, map, length, get_or, take, Some, None, sym, refl, ap, ◌∙◌, subst, ⊎_elim, mod-lt, arith}
+use Rattle.std.proofs.Common.{◌≡◌, ℕ, zero, suc, ◌+◌, ◌*◌, ◌/◌, ◌^◌, ◌<◌, ◌≤◌, List, map, length, get_or, take, Some, None, sym, refl, ap, ◌∙◌, subst, mod-lt, arith}
 use Rattle.std.specs.List.{range_with_len, AllByRecursion as All}
 use Rattle.std.proofs.lemmas.List.FromFn.{fill_by_all}
 use Rattle.std.proofs.ByRecursion.{All-map}
@@ -7,7 +7,7 @@ use Rattle.std.proofs.lemmas.List.{take_all, length-take-le, get_or-take}
 use Rattle.theory.specs.Alphabets.{Arithmetic, Lawful}
 use Rattle.theory.specs.Levels.{digits}
 use Rattle.theory.specs.Meanings.{Meaning, Keeps}
-use Rattle.theory.specs.Reach.{InReach, messages, word_in_reach}
+use Rattle.theory.specs.Reach.{messages, word_in_reach}
 use Rattle.theory.specs.Words.{Symbols, wrong, marked, toll}
 use Rattle.theory.proofs.Reach.{all_counting, messages_has, word_in_reach_lem, no_word_in_reach}
 

@@ -1,18 +1,18 @@
 -- Looking for u once V has found a word: what a try of one half comes to, and what both tries come to. Assumes nothing.
-use Rattle.std.proofs.Common.{◌≡◌, ℕ, ◌+◌, ◌*◌, ◌<◌, ◌≤◌, min, Bool, true, false, ltb, ◌⊎◌, List, [], length, take, Some, None, Option, sym, refl, ap, ◌∙◌, subst, ap₂, inl, inr, ⊎_elim, arith}
+use Rattle.std.proofs.Common.{◌≡◌, ℕ, ◌+◌, ◌*◌, ◌<◌, ◌≤◌, min, Bool, true, false, ltb, ◌⊎◌, List, length, take, Some, None, Option, sym, refl, ap, ◌∙◌, subst, ap₂, inl, inr, ⊎_elim, arith}
 use Rattle.std.proofs.lemmas.Bool.{lt-ltb, le-ltb, cases_lt}
 use Rattle.theory.specs.Alphabets.{Arithmetic, Lawful, plus}
-use Rattle.theory.specs.Calls.{Outcome, Answer, accepted, refused, mended}
+use Rattle.theory.specs.Calls.{Answer, mended}
 use Rattle.theory.specs.Combining.{combined}
 use Rattle.theory.specs.Halves.{byte_less, whole_toll, tried_by, tried, sought_by, sought}
-use Rattle.theory.specs.Joins.{zipped, sums, less}
+use Rattle.theory.specs.Joins.{sums, less}
 use Rattle.theory.specs.Meanings.{Meaning, Keeps}
 use Rattle.theory.specs.Memory.{part}
 use Rattle.theory.specs.Parts.{call_in_part}
 use Rattle.theory.specs.Reach.{message_in_reach}
 use Rattle.theory.specs.Words.{Symbols, toll}
-use Rattle.theory.proofs.HalfCalls.{halves_of, plus_sums, half_a, half_b, long_a, long_b, held, held_a, held_b, held_e, held_l, held_r, put_together, left_mended, difference, long_difference, old_l, long_old_l}
-use Rattle.theory.proofs.PartCalls.{fresh, length_fresh, mend_result, mend_outcome, mend_result_long}
+use Rattle.theory.proofs.HalfCalls.{halves_of, plus_sums, half_a, half_b, long_a, long_b, held, held_a, held_b, held_e, held_l, held_r, put_together, left_mended}
+use Rattle.theory.proofs.PartCalls.{fresh, length_fresh, mend_result, mend_outcome}
 use Rattle.theory.proofs.Pointwise.{length_zipped}
 use Rattle.theory.proofs.Reach.{found_in_reach}
 use Rattle.theory.proofs.TwoCalls.{take_fresh}

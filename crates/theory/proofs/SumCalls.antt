@@ -1,8 +1,6 @@
 -- The calls of a direct sum, way by way. Its parts work behind the word, U's working
 -- memory first; V's part is called first, since U's working memory may lie over V's message. Assumes nothing.
-use Rattle.std.proofs.Common.{◌≡◌, ℕ, ◌+◌, ◌-◌, ◌*◌, ◌<◌, ◌≤◌, min, List, [], ◌∷◌, ◌++◌, length, take, drop, replicate, Some, None, Option, sym, refl, ap, ◌∙◌, subst, ap₂, arith}
-use Rattle.std.specs.List.{AllByRecursion as All}
-use Rattle.std.proofs.ByRecursion.{All-take, All-drop}
+use Rattle.std.proofs.Common.{◌≡◌, ℕ, ◌+◌, ◌-◌, ◌<◌, ◌≤◌, min, List, [], ◌++◌, length, take, drop, Some, None, Option, sym, ap, ◌∙◌, subst, ap₂, arith}
 use Rattle.std.proofs.lemmas.List.{take-take, drop-take, take_at, drop_at, take-append-drop}
 use Rattle.theory.specs.Alphabets.{Arithmetic, Lawful}
 use Rattle.theory.specs.Calls.{Outcome, Answer, accepted, refused, first_mark, sent, mended}
@@ -11,10 +9,10 @@ use Rattle.theory.specs.Meanings.{Meaning, Keeps}
 use Rattle.theory.specs.Memory.{over, part, settled, cleared, gathered}
 use Rattle.theory.specs.Parts.{call_in_part}
 use Rattle.theory.specs.Reach.{InReach, message_in_reach}
-use Rattle.theory.specs.Words.{Symbols, toll}
-use Rattle.theory.proofs.Calls.{paired, symbols_from_no_mark, sent_by_lem, mended_none, mended_reach}
+use Rattle.theory.specs.Words.{toll}
+use Rattle.theory.proofs.Calls.{paired, sent_by_lem, mended_none, mended_reach}
 use Rattle.theory.proofs.Overs.{length_part}
-use Rattle.theory.proofs.PartCalls.{fresh, length_fresh, sent_in_part, mend_result, mend_outcome, mend_result_long, mend_found, mended_result}
+use Rattle.theory.proofs.PartCalls.{fresh, length_fresh, mend_result, mend_outcome, mend_result_long, mend_found, mended_result}
 use Rattle.theory.proofs.Reach.{found_in_reach, in_reach_found}
 use Rattle.theory.proofs.Reaches.{toll_append, sum_reaches_parts}
 use Rattle.theory.proofs.Symbols.{symbols_take, symbols_append}

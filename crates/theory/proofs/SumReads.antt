@@ -1,8 +1,8 @@
 -- Read of a direct sum, way by way: V's part is read first, then U's, behind the word. Assumes nothing.
-use Rattle.std.proofs.Common.{◌≡◌, ℕ, ◌+◌, ◌-◌, ◌≤◌, List, [], ◌∷◌, ◌++◌, length, take, drop, Some, None, Option, sym, refl, ap, ◌∙◌, ap₂, arith}
+use Rattle.std.proofs.Common.{◌≡◌, ℕ, ◌+◌, ◌-◌, ◌≤◌, List, [], ◌++◌, length, take, drop, Some, sym, ap, ◌∙◌, ap₂, arith}
 use Rattle.std.proofs.lemmas.List.{take-take, drop-take, take_at, drop_at, take-append-drop}
 use Rattle.theory.specs.Alphabets.{Arithmetic}
-use Rattle.theory.specs.Calls.{Outcome, Answer, accepted, refused, read_back}
+use Rattle.theory.specs.Calls.{Outcome, accepted, refused, read_back}
 use Rattle.theory.specs.Joins.{direct_sum}
 use Rattle.theory.specs.Meanings.{Meaning, Keeps}
 use Rattle.theory.specs.Memory.{over, part, settled, cleared, gathered}

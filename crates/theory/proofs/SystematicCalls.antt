@@ -1,15 +1,15 @@
 -- The calls of a code whose word is the message and then checks and fills the working memory, way by way. Assumes nothing.
-use Rattle.std.proofs.Common.{◌≡◌, ℕ, ◌+◌, ◌-◌, ◌*◌, ◌<◌, ◌≤◌, ◌⊎◌, List, [], ◌∷◌, ◌++◌, length, take, drop, Some, None, Option, sym, refl, ap, ◌∙◌, subst, ⊎_elim, arith, length-append}
+use Rattle.std.proofs.Common.{◌≡◌, ℕ, ◌+◌, ◌-◌, ◌*◌, ◌<◌, ◌≤◌, List, [], ◌∷◌, ◌++◌, length, take, drop, Some, None, Option, sym, refl, ap, ◌∙◌, subst, arith}
 use Rattle.std.specs.Option.{option_map}
 use Rattle.std.specs.List.{AllByRecursion as All}
 use Rattle.std.proofs.ByRecursion.{All-take}
-use Rattle.std.proofs.lemmas.List.{length-take-le, take_at, take-take, take-append-le}
+use Rattle.std.proofs.lemmas.List.{length-take-le, take_at, take-take}
 use Rattle.std.proofs.lemmas.Bool.{le-leb}
 use Rattle.theory.specs.Alphabets.{Arithmetic}
-use Rattle.theory.specs.Calls.{Outcome, accepted, refused, first_mark, sent, mended, read_back}
-use Rattle.theory.specs.Meanings.{Meaning, Keeps}
-use Rattle.theory.specs.Memory.{over, settled, cleared}
-use Rattle.theory.specs.Reach.{InReach, message_in_reach, word_in_reach}
+use Rattle.theory.specs.Calls.{accepted, refused, first_mark, sent, mended, read_back}
+use Rattle.theory.specs.Meanings.{Keeps}
+use Rattle.theory.specs.Memory.{settled, cleared}
+use Rattle.theory.specs.Reach.{message_in_reach, word_in_reach}
 use Rattle.theory.specs.Words.{Symbols, wrong, marked, toll}
 use Rattle.theory.proofs.Calls.{paired, symbols_from_no_mark, sent_by_lem, mended_by_lem, read_word, read_none}
 use Rattle.theory.proofs.Counts.{symbols_from_unmarked}

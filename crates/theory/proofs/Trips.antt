@@ -1,10 +1,9 @@
 -- What two calls in a row come to, for every code that keeps its meaning. Assumes nothing.
-use Rattle.std.proofs.Common.{◌≡◌, ℕ, ◌<◌, ◌≤◌, cond, ltb, ◌⊎◌, List, [], ◌∷◌, length, take, Some, None, Option, sym, refl, ap, ◌∙◌, inl, inr, ⊎_elim, arith}
-use Rattle.std.specs.List.{AllByRecursion as All}
+use Rattle.std.proofs.Common.{◌≡◌, ℕ, ◌<◌, ◌≤◌, ltb, List, [], ◌∷◌, length, take, Some, None, Option, sym, refl, ap, ◌∙◌, ⊎_elim, arith}
 use Rattle.std.proofs.lemmas.List.{length-take-le}
 use Rattle.std.proofs.lemmas.Bool.{lt-ltb, le-ltb, cond-true, cond-false, cases_lt}
 use Rattle.theory.specs.Alphabets.{Arithmetic}
-use Rattle.theory.specs.Calls.{Outcome, Answer, accepted, refused, first_mark, sent_by, sent, mended_by, mended, read_by, read_back}
+use Rattle.theory.specs.Calls.{Outcome, Answer, accepted, refused, first_mark, sent, mended, read_back}
 use Rattle.theory.specs.Meanings.{Meaning, Keeps}
 use Rattle.theory.specs.Memory.{settled}
 use Rattle.theory.specs.Reach.{InReach, message_in_reach, message_of_word}

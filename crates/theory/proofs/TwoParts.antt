@@ -1,10 +1,9 @@
 -- Two working parts behind the first p bytes, the right one written first, then the left one. Assumes nothing.
-use Rattle.std.proofs.Common.{◌≡◌, ℕ, ◌+◌, ◌-◌, ◌≤◌, List, ◌++◌, length, take, drop, replicate, sym, refl, ap, ◌∙◌, ap₂, arith, length-append, length-take}
-use Rattle.std.proofs.lemmas.List.{length-take-le}
+use Rattle.std.proofs.Common.{◌≡◌, ℕ, ◌+◌, ◌-◌, ◌≤◌, List, ◌++◌, length, take, drop, replicate, ap, ◌∙◌, ap₂, arith}
 use Rattle.std.proofs.lemmas.Bool.{le-leb}
 use Rattle.theory.specs.Memory.{over, part, settled, cleared, gathered}
 use Rattle.theory.proofs.Memory.{cleared_there, settled_over}
-use Rattle.theory.proofs.Overs.{length_over, take_over_below, drop_over_above, part_over, part_above, part_below, gathered_is}
+use Rattle.theory.proofs.Overs.{length_over, drop_over_above, part_over, part_above, part_below, gathered_is}
 
 module _ (xs : List ℕ) (p wu wv : ℕ) (left right : List ℕ) (long_left : length left ≡ wu) (long_right : length right ≡ wv) (room : p + wu + wv ≤ length xs) where
   right_in : p + wu + length right ≤ length xs

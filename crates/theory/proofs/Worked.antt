@@ -1,6 +1,6 @@
 -- The worked examples hold, by computing; the four-symbol pile has 65,536 messages, so its mend goes by the law that a
 -- message in reach is the one found. Assumes nothing.
-use Rattle.std.proofs.Common.{◌≡◌, ℕ, List, [], ◌∷◌, replicate, refl, lit<, lit≤}
+use Rattle.std.proofs.Common.{◌≡◌, [], ◌∷◌, replicate, refl, lit<, lit≤}
 use Rattle.theory.specs.Alphabets.{four}
 use Rattle.theory.specs.Calls.{accepted, sent, mended}
 use Rattle.theory.specs.Cases.{WorkedExamplesHold, four_pile_word}

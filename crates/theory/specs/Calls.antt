@@ -1,5 +1,5 @@
 -- The calls of a code: from the whole memory handed over to the outcome and the whole memory afterwards.
-use Rattle.std.specs.Prelude.{ℕ, suc, ◌+◌, ◌*◌, cond, List, [], ◌∷◌, ◌++◌, length, take, Some, None, Option, nat_lt}
+use Rattle.std.specs.Prelude.{ℕ, suc, ◌*◌, cond, List, [], ◌∷◌, ◌++◌, length, take, Some, None, Option, nat_lt}
 use Rattle.std.specs.Option.{option_map}
 use Rattle.theory.specs.Alphabets.{Arithmetic}
 use Rattle.theory.specs.Meanings.{Meaning}

@@ -1,6 +1,6 @@
 -- Worked examples of the definitions, as one statement over a list. A mark is 255 in the list, and memory that a call
 -- does not read is 170.
-use Rattle.std.specs.Prelude.{◌≡◌, ℕ, List, [], ◌∷◌, ◌++◌, replicate}
+use Rattle.std.specs.Prelude.{◌≡◌, ℕ, List, [], ◌∷◌, replicate}
 use Rattle.std.specs.List.{AllByRecursion as All}
 use Rattle.theory.specs.Alphabets.{Arithmetic, two, three, four}
 use Rattle.theory.specs.Calls.{Outcome, accepted, refused, sent, mended}

@@ -1,5 +1,5 @@
 -- The repetition code: the word is n copies of the one symbol of the message.
-use Rattle.std.specs.Prelude.{ℕ, cond, ◌&&◌, [], ◌∷◌, replicate, Some, None, ◌==◌, nat_le, slice_index}
+use Rattle.std.specs.Prelude.{ℕ, cond, ◌&&◌, replicate, Some, None, ◌==◌, nat_le, slice_index}
 use Rattle.theory.specs.Meanings.{Meaning, Making, made, refused_making}
 
 abbrev pub repetition : ℕ → Meaning

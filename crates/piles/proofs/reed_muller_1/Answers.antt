@@ -1,5 +1,4 @@
 use Rattle.std.proofs.Common.{sym}
-use Rattle.theory.specs.NamedPiles.{reed_muller}
 use Rattle.theory.specs.Piles.{leaf}
 use Rattle.theory.specs.Repetition.{repetition, repetition_making}
 use Rattle.piles.proofs.Numbers.{refused_not_made, numbers_1}

@@ -1,4 +1,4 @@
-use Rattle.std.proofs.Common.{ℕ, ◌+◌, ◌-◌, ◌≤◌, List, sym, ap, ◌∙◌}
+use Rattle.std.proofs.Common.{sym, ◌∙◌}
 use Rattle.std.proofs.lemmas.Bool.{leb-true}
 use Rattle.theory.proofs.Memory.{copied_there, copied_no_source, copied_no_target, put_mid_range}
 use Rattle.codes.proofs.memory.copy_between.Goals as goal

@@ -1,4 +1,4 @@
-use Rattle.std.proofs.Common.{◌≡◌, ℕ, ◌+◌, ◌-◌, min, ltb, List, length, take, drop, sym, ap, ◌∙◌, ap₂, arith, length-drop, length-take}
+use Rattle.std.proofs.Common.{◌≡◌, ℕ, ◌+◌, ◌-◌, ltb, length, take, drop, sym, ap, ◌∙◌, ap₂, arith, length-drop, length-take}
 use Rattle.theory.specs.Words.{toll}
 use Rattle.theory.proofs.Counts.{wrong_le, marked_le}
 use Rattle.theory.proofs.Memory.{front_is}

@@ -1,5 +1,4 @@
-use Rattle.std.proofs.Common.{◌≡◌, ℕ, ◌+◌, ◌-◌, List, [], take, Some, None, sym, refl, ap, ◌∙◌, ap₂, arith}
-use Rattle.std.proofs.lemmas.Result.{err_from_is_err_and}
+use Rattle.std.proofs.Common.{◌≡◌, ℕ, ◌+◌, take, Some, sym, refl, ap, ◌∙◌, ap₂, arith}
 use Rattle.codes.specs.Refusals.{outcome}
 use Rattle.theory.specs.Calls.{accepted, first_mark, sent}
 use Rattle.theory.specs.Joins.{direct_sum}

@@ -1,4 +1,4 @@
-use Rattle.std.proofs.Common.{◌≡◌, ℕ, ◌+◌, ◌-◌, ◌/◌, false, ◌&&◌, leb, List, sym, ap, ◌∙◌, ap₂, arith}
+use Rattle.std.proofs.Common.{ℕ, ◌+◌, ◌-◌, ◌/◌, ◌&&◌, leb, List, sym, ap, ◌∙◌, ap₂}
 use Rattle.codes.specs.Refusals.{outcome}
 use Rattle.theory.specs.Calls.{accepted}
 use Rattle.theory.specs.Memory.{moved, cleared}

@@ -1,4 +1,4 @@
-use Rattle.std.proofs.Common.{ℕ, ◌+◌, ◌*◌, Bool, ltb, sym, ap, ◌∙◌, arith}
+use Rattle.std.proofs.Common.{◌*◌, ltb, sym, ap, ◌∙◌, arith}
 use Rattle.codes.specs.Refusals.{outcome}
 use Rattle.parts.proofs.Outcomes.{err_refuses, ok_accepts}
 use Rattle.parts.proofs.Tolls.{near_by_toll}

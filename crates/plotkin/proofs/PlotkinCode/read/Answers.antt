@@ -1,4 +1,4 @@
-use Rattle.std.proofs.Common.{List, [], sym, ap, ◌∙◌, arith}
+use Rattle.std.proofs.Common.{[], sym, ap, ◌∙◌, arith}
 use Rattle.codes.specs.Refusals.{outcome}
 use Rattle.parts.proofs.Outcomes.{err_refuses, ok_accepts}
 use Rattle.plotkin.specs.Kept.{kept}

@@ -1,4 +1,4 @@
-use Rattle.std.proofs.Common.{◌≡◌, ℕ, ◌+◌, ◌*◌, List, [], take, Some, None, sym, refl, ap, ◌∙◌, ap₂, arith}
+use Rattle.std.proofs.Common.{◌≡◌, ℕ, ◌+◌, ◌*◌, [], take, Some, sym, refl, ap, ◌∙◌, ap₂, arith}
 use Rattle.codes.specs.Refusals.{outcome}
 use Rattle.parts.proofs.Outcomes.{err_is_refused}
 use Rattle.plotkin.specs.Kept.{kept}

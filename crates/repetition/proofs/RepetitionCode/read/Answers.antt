@@ -1,6 +1,6 @@
 use Rattle.std.proofs.Common.{ℕ, List, sym, ap, ◌∙◌, arith}
 use Rattle.std.proofs.lemmas.Bool.{ltb-true, ltb-false}
-use Rattle.theory.specs.Calls.{Outcome, accepted}
+use Rattle.theory.specs.Calls.{accepted}
 use Rattle.theory.specs.Repetition.{repetition}
 use Rattle.theory.proofs.Calls.{read_short}
 use Rattle.repetition.proofs.Copies.{read_found, read_none_found}

@@ -1,4 +1,4 @@
-use Rattle.std.proofs.Common.{◌*◌, sym, refl, ◌∙◌, arith}
+use Rattle.std.proofs.Common.{◌*◌, refl, arith}
 use Rattle.cues.specs.Shapes.{plan_in, state_in}
 use Rattle.cues.proofs.Checks.{wipe_no_cue, wipe_too_short, wipe_held, wipe_accepted}
 use Rattle.cues.proofs.Sizes.{block_is, cells_are, first_start_is}

@@ -1,5 +1,5 @@
-use Rattle.std.proofs.Common.{◌≡◌, ℕ, ◌+◌, ◌*◌, ◌<◌, ◌≤◌, min, length, get_or, Ok, Err, sym, refl, ap, ◌∙◌, subst, add-mul, one-mul, arith}
-use Rattle.cues.specs.Shapes.{plan_in, FitStore}
+use Rattle.std.proofs.Common.{◌≡◌, ℕ, ◌+◌, ◌*◌, min, length, get_or, Ok, sym, refl, ap, ◌∙◌, subst, add-mul, one-mul, arith}
+use Rattle.cues.specs.Shapes.{plan_in}
 use Rattle.cues.specs.Steps.{symbols_in, Loaded}
 use Rattle.cues.proofs.LevelReads.{level_more, level_all}
 use Rattle.cues.proofs.Outcomes.{err_is_not_ok, same_value}

@@ -1,4 +1,4 @@
-use Rattle.std.proofs.Common.{◌≡◌, ℕ, ◌*◌, ◌/◌, ◌%◌, ◌<◌, List, get_or, take, drop, Ok, sym, ap, ◌∙◌, subst, arith}
+use Rattle.std.proofs.Common.{◌≡◌, ℕ, ◌*◌, ◌/◌, ◌%◌, List, get_or, take, drop, Ok, ap, ◌∙◌}
 use Rattle.std.proofs.lemmas.Nat.{div_below}
 use Rattle.theory.specs.Memory.{part}
 use Rattle.cues.specs.Shapes.{plan_in}

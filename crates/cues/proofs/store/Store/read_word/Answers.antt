@@ -1,5 +1,5 @@
 use Rattle.std.proofs.Common.{arith}
-use Rattle.codes.specs.Refusals.{outcome, refusal_number, refusal_values}
+use Rattle.codes.specs.Refusals.{outcome}
 use Rattle.parts.proofs.Outcomes.{err_is_refused as read-is-refused}
 use Rattle.theory.specs.Calls.{accepted}
 use Rattle.cues.specs.Refusals.{store_outcome}

@@ -1,4 +1,4 @@
-use Rattle.std.proofs.Common.{◌≡◌, true, ◌||◌, ltb, ◌++◌, length, drop, sym, refl, ap, ◌∙◌, subst, arith}
+use Rattle.std.proofs.Common.{◌≡◌, true, ◌||◌, ltb, ◌++◌, length, drop, sym, refl, ◌∙◌, subst, arith}
 use Rattle.std.proofs.lemmas.Bool.{or_left, or_right, lt-ltb, not_from_true, not_from_false}
 use Rattle.store_theory.specs.Calls.{StoreAnswer, zeroed}
 use Rattle.store_theory.specs.Checks.{few_bytes}

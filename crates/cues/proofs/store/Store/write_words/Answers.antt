@@ -1,5 +1,4 @@
-use Rattle.std.proofs.Common.{sym, refl, ap, ◌∙◌, arith}
-use Rattle.cues.proofs.Outcomes.{err_is_refused}
+use Rattle.std.proofs.Common.{refl, ◌∙◌, arith}
 use Rattle.cues.proofs.WordWrites.{cleared_same, words_none, words_more, words_all}
 use Rattle.cues.proofs.store.Store.write_words.Goals as goal
 
