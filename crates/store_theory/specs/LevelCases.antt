@@ -1,7 +1,7 @@
 -- Worked examples of levels as symbols, as one statement over a list.
 use Rattle.std.specs.Prelude.{◌≡◌, ℕ, List, [], ◌∷◌, length}
 use Rattle.std.specs.Int.Digits.{number_from_digits}
-use Rattle.std.specs.List.{AllByRecursion as All}
+use Rattle.std.specs.List.{AllByRecursion}
 use Rattle.theory.specs.Alphabets.{Arithmetic, two, three, four}
 use Rattle.theory.specs.Cases.{Made}
 use Rattle.theory.specs.Levels.{level_symbols}
@@ -35,4 +35,4 @@ level_cases =
 
 -- every one of them holds
 abbrev pub LevelExamplesHold : Type 0
-LevelExamplesHold = All HoldsOfLevels level_cases
+LevelExamplesHold = AllByRecursion HoldsOfLevels level_cases

@@ -1,6 +1,6 @@
 -- Worked examples of runs, as one statement over a list. Each call of a run is handed as many working bytes as it needs.
 use Rattle.std.specs.Prelude.{◌≡◌, ℕ, Bool, true, false, not, List, [], ◌∷◌, ◌++◌, length, replicate, Some, None, Option}
-use Rattle.std.specs.List.{AllByRecursion as All}
+use Rattle.std.specs.List.{AllByRecursion}
 use Rattle.theory.specs.Alphabets.{Arithmetic, two, three, four}
 use Rattle.theory.specs.Calls.{Outcome, accepted, refused}
 use Rattle.theory.specs.Hexacode.{hexacode}
@@ -120,4 +120,4 @@ run_cases =
 
 -- every one of them holds
 abbrev pub RunExamplesHold : Type 0
-RunExamplesHold = All HoldsOfRun run_cases
+RunExamplesHold = AllByRecursion HoldsOfRun run_cases

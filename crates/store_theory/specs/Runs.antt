@@ -1,6 +1,6 @@
 -- Runs: damage and calls of every kind, in any order, refused ones too, from a new store and cells of any length and content.
 use Rattle.std.specs.Prelude.{ℕ, ◌<◌, List, fold, slice_set}
-use Rattle.std.specs.List.{AllByRecursion as All}
+use Rattle.std.specs.List.{AllByRecursion}
 use Rattle.theory.specs.Alphabets.{Arithmetic}
 use Rattle.theory.specs.Meanings.{Meaning}
 use Rattle.store_theory.specs.Calls.{recorded_cue, recorded_cue_by_slip, held_cue, let_go_cue, wiped_cue, touched_up_cue, recalled_cue, tallied, started, stopped}
@@ -61,8 +61,8 @@ after A m p cells run = fold (stepped A m p) (opening cells) run
 -- the levels that a step is handed for recording are bytes
 abbrev pub GivesBytes : Step → Type 0
 GivesBytes (damage cell byte) = Unit {0}
-GivesBytes (recording cue levels memory) = All (λ level. level < 256) levels
-GivesBytes (slip_recording cue levels memory) = All (λ level. level < 256) levels
+GivesBytes (recording cue levels memory) = AllByRecursion (λ level. level < 256) levels
+GivesBytes (slip_recording cue levels memory) = AllByRecursion (λ level. level < 256) levels
 GivesBytes (holding cue) = Unit {0}
 GivesBytes (letting_go cue) = Unit {0}
 GivesBytes (wiping cue) = Unit {0}

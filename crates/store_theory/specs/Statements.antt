@@ -1,6 +1,6 @@
 -- What holds of every run of every store.
 use Rattle.std.specs.Prelude.{◌≡◌, ℕ, ◌*◌, ◌<◌, ◌≤◌, true, List, ◌++◌, length, drop, is_some, Some, None}
-use Rattle.std.specs.List.{AllByRecursion as All}
+use Rattle.std.specs.List.{AllByRecursion}
 use Rattle.theory.specs.Alphabets.{Arithmetic, Lawful}
 use Rattle.theory.specs.Calls.{accepted}
 use Rattle.theory.specs.Meanings.{Meaning, Keeps}
@@ -21,7 +21,7 @@ Leads A m p start run state cells = after A m p start run ≡ record { state = s
 -- and gives exactly those levels.
 abbrev pub LastRecorded : Arithmetic → Meaning → Plan → ℕ → State → List ℕ → List ℕ → List ℕ → StoreAnswer → Type 0
 LastRecorded A m p cue state cells given memory left =
-    (start : List ℕ) (run : List Step) → All GivesBytes run → Leads A m p start run state cells → (levels : List ℕ) → (book A m p (length start) run cue).levels ≡ Some levels → ((word : ℕ) → word < word_count A m p → harmless A m p (length start) run cue word ≡ true) → p.levels ≤ length given → m.w ≤ length memory → (length levels ≡ p.levels) × (left ≡ (accepted, state, cells, levels ++ drop p.levels given, zeroed m.w memory))
+    (start : List ℕ) (run : List Step) → AllByRecursion GivesBytes run → Leads A m p start run state cells → (levels : List ℕ) → (book A m p (length start) run cue).levels ≡ Some levels → ((word : ℕ) → word < word_count A m p → harmless A m p (length start) run cue word ≡ true) → p.levels ≤ length given → m.w ≤ length memory → (length levels ≡ p.levels) × (left ≡ (accepted, state, cells, levels ++ drop p.levels given, zeroed m.w memory))
 
 -- over every lawful alphabet and every code that keeps its meaning
 abbrev pub RecallGivesWhatWasLastRecorded : Type 0
@@ -49,10 +49,10 @@ BookAndStoreAgree =
 pub record ReadBack (A : Arithmetic) (m : Meaning) (p : Plan) (levels : List ℕ) : Type 0 where
   pub room : symbol_count A p ≤ word_count A m p * m.k
   pub fewest : (count : ℕ) → symbol_count A p ≤ count * m.k → word_count A m p ≤ count
-  pub messages : All (Symbols A.q m.k) (messages_of A m p levels)
+  pub messages : AllByRecursion (Symbols A.q m.k) (messages_of A m p levels)
   pub back : level_numbers A p (together (messages_of A m p levels)) ≡ levels
   pub faultless : level_fault A p (together (messages_of A m p levels)) ≡ None
 
 abbrev pub WrittenLevelsReadBack : Type 0
 WrittenLevelsReadBack =
-    (A : Arithmetic) → Lawful A → (m : Meaning) → Keeps A m → (p : Plan) (levels : List ℕ) → length levels ≡ p.levels → All (λ level. level < 256) levels → ReadBack A m p levels
+    (A : Arithmetic) → Lawful A → (m : Meaning) → Keeps A m → (p : Plan) (levels : List ℕ) → length levels ≡ p.levels → AllByRecursion (λ level. level < 256) levels → ReadBack A m p levels

@@ -1,7 +1,7 @@
 -- Worked examples of the definitions, as one statement over a list. A mark is 255 in the list, and memory that a call
 -- does not read is 170.
 use Rattle.std.specs.Prelude.{◌≡◌, ℕ, List, [], ◌∷◌, replicate}
-use Rattle.std.specs.List.{AllByRecursion as All}
+use Rattle.std.specs.List.{AllByRecursion}
 use Rattle.theory.specs.Alphabets.{Arithmetic, two, three, four}
 use Rattle.theory.specs.Calls.{Outcome, accepted, refused, sent, mended}
 use Rattle.theory.specs.Hamming.{hamming}
@@ -57,4 +57,4 @@ cases =
 
 -- every one of them holds
 abbrev pub WorkedExamplesHold : Type 0
-WorkedExamplesHold = All Holds cases
+WorkedExamplesHold = AllByRecursion Holds cases

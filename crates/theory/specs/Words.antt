@@ -1,11 +1,11 @@
 -- Words: lists of symbols, the places in which two of them differ, and the toll of a word against what was received.
 use Rattle.std.specs.Prelude.{◌≡◌, ℕ, ◌+◌, ◌*◌, ◌<◌, cond, List, [], ◌∷◌, length, ◌==◌, nat_lt}
-use Rattle.std.specs.List.{AllByRecursion as All}
+use Rattle.std.specs.List.{AllByRecursion}
 
 -- xs is a list of n symbols of an alphabet of q
 pub record Symbols (q n : ℕ) (xs : List ℕ) : Type 0 where
   pub long : length xs ≡ n
-  pub each : All (λ x. x < q) xs
+  pub each : AllByRecursion (λ x. x < q) xs
 
 -- in how many places two words differ (the Hamming distance)
 abbrev pub differ : List ℕ → List ℕ → ℕ
