@@ -90,7 +90,10 @@ mod tests {
         );
         let written = cells;
         cells[18] = 255;
-        cells[24..28].fill(255);
+        cells[24] = 255;
+        cells[25] = 255;
+        cells[26] = 255;
+        cells[27] = 255;
         memory = [170; 7];
         let Ok(touched) = store.touch_up(1, &mut cells, &mut memory) else {
             return Err(Fail::new("refused"));
@@ -148,7 +151,10 @@ mod tests {
         let mut cells = [0; 36];
         let mut memory = [170; 6];
         assert_eq!(rt; number(store.record(0, &[], &mut cells, &mut memory)), 0);
-        cells[12..18].copy_from_slice(&[0, 0, 1, 1, 1, 1]);
+        cells[14] = 1;
+        cells[15] = 1;
+        cells[16] = 1;
+        cells[17] = 1;
         let mut levels = [9; 2];
         let answer = store.recall(0, &cells, &mut levels, &mut memory);
         assert!(rt; matches_level(answer, 0, 2));
