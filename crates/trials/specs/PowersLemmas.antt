@@ -1,5 +1,5 @@
 -- The alphabet of five symbols is lawful, and the code of powers keeps its meaning. Assumes nothing.
-use Rattle.std.specs.Prelude.{◌≡◌, ℕ, zero, suc, ◌/◌, ◌%◌, ◌^◌, ◌<◌, List, [], ◌∷◌, refl}
+use Rattle.std.specs.Prelude.{◌≡◌, ℕ, zero, suc, ◌/◌, ◌%◌, ◌^◌, ◌<◌, [], ◌∷◌, refl}
 use Rattle.std.proofs.Common.{ap, arith, lit≤}
 use Rattle.theory.specs.Alphabets.{Lawful}
 use Rattle.theory.specs.Levels.{digits}

@@ -1,5 +1,5 @@
 use Rattle.std.proofs.Common.{◌+◌, ◌≤◌, vec_items, vec_len, ◌∙◌, arith}
-use Rattle.console.specs.Text.{list_on, to_come}
+use Rattle.console.specs.Text.{to_come}
 use Rattle.console.proofs.Reading.{list_more}
 use Rattle.console.proofs.text.parse_list.Goals as goal
 

@@ -1,6 +1,5 @@
-use Rattle.std.proofs.Common.{◌≡◌, ℕ, ◌/◌, ◌%◌, ◌<◌, ◌≤◌, List, [], ◌∷◌, sym, refl, ap, ◌∙◌, arith, below_more}
+use Rattle.std.proofs.Common.{ℕ, List, sym, refl, ap, ◌∙◌, arith, below_more}
 use Rattle.std.proofs.lemmas.Bool.{ltb-true, ltb-false}
-use Rattle.theory.specs.Levels.{digits}
 use Rattle.theory.proofs.Search.{damage_of, search_finds, search_fails}
 use Rattle.trials.specs.Powers.{five, powers}
 use Rattle.trials.specs.PowersLemmas.{five_lawful, powers_keeps, symbol_digits}
