@@ -1,15 +1,14 @@
 // Alphabets: what one is, and the alphabets of two, three and four symbols.
 #![tactic(auto)]
 
-ghost use Rattle.std.specs.Prelude.{◌≡◌};
-ghost use Rattle.theory.specs.Alphabets.{Arithmetic, Lawful, plus, minus, two, three, four, times4};
+ghost use Rattle.std.specs.Prelude.{◌≡◌, ℕ, refl};
+ghost use Rattle.theory.specs.Alphabets.{Arithmetic, Lawful, modular, plus, minus, two, three, four, times4};
 ghost use Rattle.theory.proofs.Alphabets.{two_lawful, three_lawful, four_lawful};
 
 /// What the sum, the negative or the product of a mark is.
 pub const MARK: u8 = 255;
 
 /// An alphabet of Q symbols, the bytes 0 to Q - 1; every other byte is a mark. B symbols write a level.
-/// Generic code knows nothing of a constant's value, so `order` and `width` answer the two numbers with a contract.
 pub trait Alphabet {
     const Q: u8;
 
@@ -17,11 +16,9 @@ pub trait Alphabet {
 
     ghost symbols: { Arithmetic };
 
-    fn order() -> u8
-        ensures { result ≡ symbols.q };
+    ghost Q: { ℕ };
 
-    fn width() -> usize
-        ensures { result ≡ symbols.b };
+    ghost B: { ℕ };
 
     fn add(x: u8, y: u8) -> u8
         ensures { result ≡ plus symbols x y };
@@ -29,67 +26,100 @@ pub trait Alphabet {
     fn negate(x: u8) -> u8
         ensures { result ≡ minus symbols x };
 
+    ghost order_is: { Q ≡ symbols.q };
+
+    ghost width_is: { B ≡ symbols.b };
+
     ghost lawful: { Lawful symbols };
+
+    /// Q, as the order of the symbols' arithmetic.
+    final fn order() -> u8
+        ensures { result ≡ symbols.q }
+    {
+        Self::Q
+    }
+
+    /// B, as the width of a level in the symbols' arithmetic.
+    final fn width() -> usize
+        ensures { result ≡ symbols.b }
+    {
+        Self::B
+    }
+}
+
+/// Q symbols that are added modulo Q.
+pub trait Modular {
+    const Q: u8;
+
+    const B: usize;
+
+    ghost Q: { ℕ };
+
+    ghost B: { ℕ };
+
+    ghost lawful: { Lawful (modular Q B) };
+}
+
+impl<M: Modular> Alphabet for M {
+    const Q: u8 = M::Q;
+
+    const B: usize = M::B;
+
+    ghost symbols = { modular M.Q M.B };
+
+    ghost Q = { M.Q };
+
+    ghost B = { M.B };
+
+    ghost order_is = { refl };
+
+    ghost width_is = { refl };
+
+    ghost lawful = { M.lawful };
+
+    fn add(x: u8, y: u8) -> u8 {
+        if x < M::Q && y < M::Q {
+            (x + y) % M::Q
+        } else {
+            MARK
+        }
+    }
+
+    fn negate(x: u8) -> u8 {
+        if x < M::Q { (M::Q - x) % M::Q } else { MARK }
+    }
 }
 
 /// Two symbols, added modulo 2.
 #[derive(Clone, Copy)]
 pub struct Two;
 
-impl Alphabet for Two {
+impl Modular for Two {
     const Q: u8 = 2;
 
     const B: usize = 8;
 
-    ghost symbols = { two };
+    ghost Q = { 2 };
+
+    ghost B = { 8 };
 
     ghost lawful = { two_lawful };
-
-    fn order() -> u8 {
-        Two::Q
-    }
-
-    fn width() -> usize {
-        Two::B
-    }
-
-    fn add(x: u8, y: u8) -> u8 {
-        if x < 2 && y < 2 { (x + y) % 2 } else { MARK }
-    }
-
-    fn negate(x: u8) -> u8 {
-        if x < 2 { x } else { MARK }
-    }
 }
 
 /// Three symbols, added modulo 3.
 #[derive(Clone, Copy)]
 pub struct Three;
 
-impl Alphabet for Three {
+impl Modular for Three {
     const Q: u8 = 3;
 
     const B: usize = 6;
 
-    ghost symbols = { three };
+    ghost Q = { 3 };
+
+    ghost B = { 6 };
 
     ghost lawful = { three_lawful };
-
-    fn order() -> u8 {
-        Three::Q
-    }
-
-    fn width() -> usize {
-        Three::B
-    }
-
-    fn add(x: u8, y: u8) -> u8 {
-        if x < 3 && y < 3 { (x + y) % 3 } else { MARK }
-    }
-
-    fn negate(x: u8) -> u8 {
-        if x < 3 { (3 - x) % 3 } else { MARK }
-    }
 }
 
 /// The four symbols of GF(4): 2 is ω and 3 is ω + 1; addition is exclusive or.
@@ -103,15 +133,15 @@ impl Alphabet for Four {
 
     ghost symbols = { four };
 
+    ghost Q = { 4 };
+
+    ghost B = { 4 };
+
+    ghost order_is = { refl };
+
+    ghost width_is = { refl };
+
     ghost lawful = { four_lawful };
-
-    fn order() -> u8 {
-        Four::Q
-    }
-
-    fn width() -> usize {
-        Four::B
-    }
 
     fn add(x: u8, y: u8) -> u8 {
         if x < 4 && y < 4 { x ^ y } else { MARK }

@@ -3,7 +3,7 @@ ghost use Rattle.std.specs.Prelude.{◌≡◌};
 ghost use Rattle.codes.specs.Refusals.{refusal_number, making_number};
 
 /// What send, mend, read and show may answer in place of doing what they are asked.
-#[derive(Clone, Copy)]
+#[derive(Debug, Clone, Copy, PartialEq, Eq)]
 pub enum Refusal {
     /// The memory has fewer bytes than the call works in.
     ShortMemory,
@@ -30,22 +30,22 @@ impl Refusal {
 }
 
 /// Why no code is made.
-#[derive(Clone, Copy)]
+#[derive(Debug, Clone, Copy, PartialEq, Eq)]
 pub enum MakingRefusal {
     /// The two codes have words of different lengths.
-    LengthsDiffer,
+    LengthsDiffer = 5,
     /// The working length would pass what any code may have.
-    WorkingTooLong,
+    WorkingTooLong = 6,
     /// The word or the message has no such place.
-    NoSuchPlace,
+    NoSuchPlace = 7,
     /// The distance has nothing to lose: it is below 2.
-    DistanceTooSmall,
+    DistanceTooSmall = 8,
     /// The message has no symbol to lose: the dimension is below 2.
-    DimensionTooSmall,
+    DimensionTooSmall = 9,
     /// This place of the message has no carrier.
-    NoCarrier,
+    NoCarrier = 10,
     /// The length is outside what the code allows.
-    OutOfRange,
+    OutOfRange = 11,
 }
 
 impl MakingRefusal {
@@ -53,14 +53,6 @@ impl MakingRefusal {
     pub fn number(&self) -> u8
         ensures { result ≡ making_number self.now }
     {
-        match self {
-            MakingRefusal::LengthsDiffer => 5,
-            MakingRefusal::WorkingTooLong => 6,
-            MakingRefusal::NoSuchPlace => 7,
-            MakingRefusal::DistanceTooSmall => 8,
-            MakingRefusal::DimensionTooSmall => 9,
-            MakingRefusal::NoCarrier => 10,
-            MakingRefusal::OutOfRange => 11,
-        }
+        *self as u8
     }
 }

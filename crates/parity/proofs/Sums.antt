@@ -1,17 +1,16 @@
 -- Sums of received words: what a mark leaves out, and what fills it in again. Assumes nothing.
-use Rattle.std.proofs.Common.{◌≡◌, ℕ, suc, ◌+◌, ◌-◌, ◌<◌, ◌≤◌, Bool, true, false, cond, ltb, List, [], ◌∷◌, length, get_or, drop, set, Some, None, Option, sym, refl, ap, ◌∙◌, subst, ⊎_elim, arith}
+use Rattle.std.proofs.Common.{◌≡◌, ℕ, suc, ◌<◌, ◌≤◌, Bool, true, false, cond, ltb, List, [], ◌∷◌, ◌++◌, set, Some, None, Option, sym, refl, ap, ◌∙◌, subst, ⊎_elim, arith}
 use Rattle.std.specs.Option.{option_map}
 use Rattle.std.specs.List.{AllByRecursion as All}
-use Rattle.std.proofs.lemmas.List.{drop_more}
 use Rattle.std.proofs.lemmas.Bool.{lt-ltb, le-ltb, ltb-true, ltb-false, cond-true, cond-false, cases_lt}
 use Rattle.std.proofs.lemmas.Bool.Decides.{nat_tests}
-use Rattle.theory.specs.Alphabets.{Arithmetic, Lawful, plus}
+use Rattle.theory.specs.Alphabets.{Arithmetic, Lawful}
 use Rattle.theory.specs.Calls.{first_mark}
 use Rattle.theory.specs.Parity.{total}
 use Rattle.theory.specs.Words.{wrong, marked}
 use Rattle.theory.proofs.Calls.{first_mark_none}
 use Rattle.theory.proofs.Counts.{symbols_from_unmarked}
-use Rattle.theory.proofs.Groups.{add_swap, plus_symbols, zero_symbol}
+use Rattle.theory.proofs.Groups.{add_swap, zero_symbol}
 use Rattle.theory.proofs.Words.{toll_self}
 use Rattle.parity.specs.Sums.{unmarked_total}
 
@@ -75,21 +74,16 @@ module _ (A : Arithmetic) (laws : Lawful A) where
       let none = first_mark_none A.q xs (symbols_from_unmarked A.q xs (omega arith)) in
       absurd (let z : ◌≡◌ {A = ℕ} 0 1 = cc in omega arith)) (λ (h : 1 ≤ marked A.q xs). h) (cases_lt (marked A.q xs) 1)
 
-  -- one place more, from the end
-  module _ (xs : List ℕ) (i : ℕ) (some : 0 < i) (within : i ≤ length xs) where
-    next : drop (i - 1) xs ≡ get_or xs (i - 1) 0 ∷ drop i xs
-    next =
-        let here : i - 1 + 1 ≡ i = omega arith in
-        drop_more xs (i - 1) 0 (omega arith) ∙ ap (λ (k : ℕ). get_or xs (i - 1) 0 ∷ drop k xs) here
+  -- a symbol more, and a mark more
+  pub unmarked_push_symbol : (xs : List ℕ) (x : ℕ) → x < A.q → unmarked_total A (xs ++ x ∷ []) ≡ A.add (unmarked_total A xs) x
+  unmarked_push_symbol [] x h =
+      cond-true (ltb x A.q) (A.add x 0) 0 (lt-ltb x A.q h) ∙ laws.comm x 0 h (zero_symbol A laws)
+  unmarked_push_symbol (y ∷ ys) x h = go (ltb y A.q) refl (unmarked_push_symbol ys x h)
+    where
+      go : (b : Bool) → ltb y A.q ≡ b → unmarked_total A (ys ++ x ∷ []) ≡ A.add (unmarked_total A ys) x → cond b (A.add y (unmarked_total A (ys ++ x ∷ []))) (unmarked_total A (ys ++ x ∷ [])) ≡ A.add (cond b (A.add y (unmarked_total A ys)) (unmarked_total A ys)) x
+      go true e rest = ap (A.add y) rest ∙ sym (laws.assoc y (unmarked_total A ys) x (ltb-true y A.q e) (unmarked_closed ys) h)
+      go false e rest = rest
 
-    pub unmarked_more_symbol : get_or xs (i - 1) 0 < A.q → plus A (get_or xs (i - 1) 0) (unmarked_total A (drop i xs)) ≡ unmarked_total A (drop (i - 1) xs)
-    unmarked_more_symbol h =
-        let x = get_or xs (i - 1) 0 in
-        let rest = unmarked_total A (drop i xs) in
-        plus_symbols A laws x rest h (unmarked_closed (drop i xs)) ∙ sym (cond-true (ltb x A.q) (A.add x rest) rest (lt-ltb x A.q h)) ∙ ap (unmarked_total A) (sym next)
-
-    pub unmarked_more_mark : A.q ≤ get_or xs (i - 1) 0 → unmarked_total A (drop i xs) ≡ unmarked_total A (drop (i - 1) xs)
-    unmarked_more_mark h =
-        let x = get_or xs (i - 1) 0 in
-        let rest = unmarked_total A (drop i xs) in
-        sym (cond-false (ltb x A.q) (A.add x rest) rest (le-ltb x A.q h)) ∙ ap (unmarked_total A) (sym next)
+  pub unmarked_push_mark : (xs : List ℕ) (x : ℕ) → A.q ≤ x → unmarked_total A (xs ++ x ∷ []) ≡ unmarked_total A xs
+  unmarked_push_mark [] x h = cond-false (ltb x A.q) (A.add x 0) 0 (le-ltb x A.q h)
+  unmarked_push_mark (y ∷ ys) x h = ap (λ (t : ℕ). cond (ltb y A.q) (A.add y t) t) (unmarked_push_mark ys x h)

@@ -65,11 +65,7 @@ impl<S: Alphabet> Code for Parity<S> {
     }
 
     fn carrier(&self, place: usize) -> Option<usize> {
-        if place < self.n - 1 {
-            Some(place)
-        } else {
-            None
-        }
+        (place < self.n - 1).then_some(place)
     }
 
     fn send(&self, memory: &mut [u8]) -> Result<(), Refusal> {
@@ -138,9 +134,9 @@ fn sum_of_unmarked<S: Alphabet>(bytes: &[u8]) -> u8
     ensures { result ≡ unmarked_total S.Alphabet.symbols bytes.now }
 {
     let mut sum = 0;
-    for i in (0..bytes.len()).rev() {
-        if bytes[i] < S::order() {
-            sum = S::add(bytes[i], sum);
+    for x in bytes {
+        if *x < S::order() {
+            sum = S::add(sum, *x);
         }
     }
     sum

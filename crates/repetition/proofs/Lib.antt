@@ -1,1 +1,2 @@
 mod Copies
+mod Counts

@@ -33,9 +33,3 @@ five_lawful =
 -- the test is of 5 words, 25 pairs
 pub powers_keeps : Keeps five powers
 powers_keeps = systematic_keeps five 4 1 3 4 powers_checks refl (lit≤ tt) (lit≤ tt) (lit≤ tt) (lit≤ tt) (lit≤ tt)
-
--- a symbol is its own digit
-pub symbol_digits : (x : ℕ) → x < 5 → x ∷ [] ≡ digits 5 1 x
-symbol_digits x l =
-    let same : x ≡ x / (5 ^ 0) % 5 = omega arith in
-    ap (λ (y : ℕ). y ∷ []) same

@@ -3,24 +3,19 @@
 mod tests {
     use crate::number;
     use alphabets::Three;
+    use codes::refusals::MakingRefusal;
     use codes::code::{Code, Showing};
     use codes::trips::{mend_in_reach, read_then_send, send_then_mend, send_then_read};
     use parity::Parity;
     use repetition::Repetition;
     use std::test::Fail;
 
-    fn repetition_5() -> Result<Repetition<Three>, Fail> {
-        let Ok(code) = Repetition::new(5) else {
-            return Err(Fail::new("not made"));
-        };
-        Ok(code)
+    fn repetition_5() -> Result<Repetition<Three>, MakingRefusal> {
+        Repetition::new(5)
     }
 
-    fn parity_3() -> Result<Parity<Three>, Fail> {
-        let Ok(code) = Parity::new(3) else {
-            return Err(Fail::new("not made"));
-        };
-        Ok(code)
+    fn parity_3() -> Result<Parity<Three>, MakingRefusal> {
+        Parity::new(3)
     }
 
     #[test]

@@ -62,4 +62,17 @@ mod tests {
         assert_eq!(rt; number(Hexacode.show(&mut shorter)), 0);
         assert_eq!(rt; shorter, [0, 0, 0, 1, 0, 0, 0, 0, 0, 0, 0, 0, 77]);
     }
+
+    #[test]
+    fn systematic_codes_are_called_by_their_type(rt: HostRuntime) {
+        let mut memory = [1, 2, 3, 170, 170, 170, 77];
+        assert_eq!(rt; number(systematic::send::<Hexacode, 6, 3>(&mut memory)), 0);
+        assert_eq!(rt; memory, [1, 2, 3, 0, 3, 0, 77]);
+        memory = [1, 0, 0, 255, 200, 4, 77];
+        assert_eq!(rt; number(systematic::mend::<Hexacode, 6, 3>(&mut memory)), 0);
+        assert_eq!(rt; memory, [1, 0, 0, 1, 3, 2, 77]);
+        assert_eq!(rt; number(systematic::read::<Hexacode, 6, 3>(&mut memory)), 0);
+        assert_eq!(rt; memory, [1, 0, 0, 0, 0, 0, 77]);
+        assert_eq!(rt; number(systematic::read::<Hexacode, 6, 3>(&mut [1, 0, 0, 1, 3])), 1);
+    }
 }

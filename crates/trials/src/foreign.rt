@@ -1,60 +1,73 @@
-// A code that is not the library's, made from its interface alone, over five symbols and not linear; alone and in joins.
-ghost use Rattle.std.specs.Prelude.{◌≡◌, List, [], ◌∷◌, length};
+// A code that is not the library's, over five symbols and not linear, made from public traits alone; alone and in joins.
+ghost use Rattle.std.specs.Prelude.{◌≡◌, ℕ, List, [], ◌∷◌, ◌++◌, map, refl};
+ghost use Rattle.std.specs.List.{range_with_len};
 ghost use Rattle.codes.specs.Refusals.{outcome};
-ghost use Rattle.theory.specs.Alphabets.{plus, minus};
 ghost use Rattle.theory.specs.Calls.{sent, mended, read_back};
 ghost use Rattle.theory.specs.Levels.{digits};
-ghost use Rattle.theory.specs.Reach.{word_in_reach};
-ghost use Rattle.trials.specs.Powers.{five, powers};
+ghost use Rattle.trials.specs.Powers.{five, powers_checks, powers};
 ghost use Rattle.trials.specs.PowersLemmas.{five_lawful, powers_keeps};
 
-use alphabets::{Alphabet, MARK};
+use alphabets::Modular;
 use codes::code::Code;
-use codes::memory::clear;
 use codes::refusals::Refusal;
-use codes::tolls::{damage_between, first_mark};
+use systematic::{Systematic, mend, read, send};
 
 /// Five symbols, added modulo 5.
 #[derive(Clone, Copy)]
 struct Five;
 
-impl Alphabet for Five {
+impl Modular for Five {
     const Q: u8 = 5;
 
     const B: usize = 4;
 
-    ghost symbols = { five };
+    ghost Q = { 5 };
+
+    ghost B = { 4 };
 
     ghost lawful = { five_lawful };
-
-    fn order() -> u8 {
-        Five::Q
-    }
-
-    fn width() -> usize {
-        Five::B
-    }
-
-    fn add(x: u8, y: u8) -> u8 {
-        if x < 5 && y < 5 { (x + y) % 5 } else { MARK }
-    }
-
-    fn negate(x: u8) -> u8 {
-        if x < 5 { (5 - x) % 5 } else { MARK }
-    }
 }
 
 const LENGTH: usize = 4;
 
 const DIMENSION: usize = 1;
 
-const DISTANCE: usize = 3;
-
-const MESSAGES: u8 = 5;
-
 /// The word of x is x, x² + 1, x, x³. No word is all zeros, and sums of words are no words.
 #[derive(Clone, Copy)]
 struct Powers;
+
+impl Systematic<LENGTH, DIMENSION> for Powers {
+    type Symbols = Five;
+
+    const DISTANCE: usize = 3;
+
+    const MESSAGES: u8 = 5;
+
+    ghost DISTANCE = { 3 };
+
+    ghost MESSAGES = { 5 };
+
+    ghost checks = { powers_checks };
+
+    ghost keeps = { powers_keeps };
+
+    ghost all = { refl };
+
+    fn message(index: u8) -> [u8; DIMENSION] {
+        [index % 5]
+    }
+
+    fn word(message: &[u8; DIMENSION]) -> [u8; LENGTH] {
+        let [x] = *message;
+        let wide = u32::from(x);
+        [
+            x,
+            ((wide * wide + 1) % 5) as u8,
+            x,
+            (wide * wide * wide % 5) as u8,
+        ]
+    }
+}
 
 impl Code for Powers {
     type Symbols = Five;
@@ -74,7 +87,7 @@ impl Code for Powers {
     }
 
     fn distance(&self) -> usize {
-        DISTANCE
+        Powers::DISTANCE
     }
 
     fn working_length(&self) -> usize {
@@ -82,89 +95,32 @@ impl Code for Powers {
     }
 
     fn carrier(&self, place: usize) -> Option<usize> {
-        if place < DIMENSION { Some(place) } else { None }
+        (place < DIMENSION).then_some(place)
     }
 
     fn send(&self, memory: &mut [u8]) -> Result<(), Refusal> {
-        if memory.len() < LENGTH {
-            return Err(Refusal::ShortMemory);
-        }
-        if let Some(place) = first_mark::<Five>(&memory[0..DIMENSION]) {
-            return Err(Refusal::MarkInMessage(place));
-        }
-        let word = word_of(memory[0]);
-        memory[0..LENGTH].copy_from_slice(&word);
-        Ok(())
+        send::<Powers, LENGTH, DIMENSION>(memory)
     }
 
     fn mend(&self, memory: &mut [u8]) -> Result<(), Refusal> {
-        if memory.len() < LENGTH {
-            return Err(Refusal::ShortMemory);
-        }
-        let Some(word) = word_in_reach(&memory[0..LENGTH]) else {
-            return Err(Refusal::BeyondReach);
-        };
-        memory[0..LENGTH].copy_from_slice(&word);
-        Ok(())
+        mend::<Powers, LENGTH, DIMENSION>(memory)
     }
 
     fn read(&self, memory: &mut [u8]) -> Result<(), Refusal> {
-        if memory.len() < LENGTH {
-            return Err(Refusal::ShortMemory);
-        }
-        let word = word_of(memory[0]);
-        if !damage_between::<Five>(&word, &memory[0..LENGTH]).toll_below(1) {
-            return Err(Refusal::NotAWord);
-        }
-        clear(memory, DIMENSION, LENGTH - DIMENSION);
-        Ok(())
+        read::<Powers, LENGTH, DIMENSION>(memory)
     }
-}
-
-/// The word of the message in reach of the received one, if there is one: tries all messages.
-fn word_in_reach(received: &[u8]) -> Option<[u8; LENGTH]>
-    ensures { length received.now ≡ 4 → result ≡ word_in_reach five powers received.now }
-{
-    for x in 0..MESSAGES {
-        let word = word_of(x);
-        if damage_between::<Five>(&word, received).toll_below(DISTANCE) {
-            return Some(word);
-        }
-    }
-    None
-}
-
-/// The word of the message x.
-fn word_of(x: u8) -> [u8; LENGTH]
-    ensures { result ≡ powers.word (x ∷ []) }
-{
-    let wide = u32::from(x);
-    [
-        x,
-        ((wide * wide + 1) % 5) as u8,
-        x,
-        (wide * wide * wide % 5) as u8,
-    ]
 }
 
 #[cfg(test)]
 mod tests {
-    use super::{Alphabet, Powers};
+    use super::Powers;
     use crate::number;
     use codes::code::Code;
-    use codes::refusals::MakingRefusal;
     use direct_sum::DirectSum;
     use plotkin::Plotkin;
     use puncture::Puncture;
     use shorten::Shorten;
     use std::test::Fail;
-
-    fn made<C: Drop>(answer: Result<C, MakingRefusal>) -> Result<C, Fail> {
-        match answer {
-            Ok(code) => Ok(code),
-            Err(_) => Err(Fail::new("not made")),
-        }
-    }
 
     #[test]
     fn it_sends_mends_and_reads(rt: HostRuntime) {
@@ -190,7 +146,7 @@ mod tests {
 
     #[test]
     fn a_plotkin_join_of_it_mends(rt: HostRuntime) -> Result<(), Fail> {
-        let code = made(Plotkin::new(Powers, Powers))?;
+        let code = Plotkin::new(Powers, Powers)?;
         assert_eq!(rt; (code.length(), code.dimension()), (8, 2));
         assert_eq!(rt; (code.distance(), code.working_length()), (3, 20));
         let mut memory = [170; 21];
@@ -205,7 +161,7 @@ mod tests {
 
     #[test]
     fn a_plotkin_join_of_it_refuses(rt: HostRuntime) -> Result<(), Fail> {
-        let code = made(Plotkin::new(Powers, Powers))?;
+        let code = Plotkin::new(Powers, Powers)?;
         let received = [2, 0, 255, 3, 1, 4, 1, 2];
         let mut memory = [170; 21];
         memory[0..8].copy_from_slice(&received);
@@ -219,7 +175,7 @@ mod tests {
 
     #[test]
     fn a_sum_of_it_mends(rt: HostRuntime) -> Result<(), Fail> {
-        let code = made(DirectSum::new(Powers, Powers))?;
+        let code = DirectSum::new(Powers, Powers)?;
         let mut memory = [170; 17];
         memory[0..8].copy_from_slice(&[1, 255, 1, 1, 3, 0, 255, 2]);
         assert_eq!(rt; number(code.mend(&mut memory)), 0);
@@ -232,7 +188,7 @@ mod tests {
 
     #[test]
     fn it_is_punctured(rt: HostRuntime) -> Result<(), Fail> {
-        let code = made(Puncture::new(Powers, 2))?;
+        let code = Puncture::new(Powers, 2)?;
         assert_eq!(rt; code.carrier(0), Some(0));
         let mut memory = [255, 0, 3, 170, 170, 170, 170, 170, 77];
         assert_eq!(rt; number(code.mend(&mut memory)), 0);
@@ -245,7 +201,7 @@ mod tests {
 
     #[test]
     fn a_sum_of_it_is_shortened(rt: HostRuntime) -> Result<(), Fail> {
-        let code = made(Shorten::new(made(DirectSum::new(Powers, Powers))?, 1))?;
+        let code = Shorten::new(DirectSum::new(Powers, Powers)?, 1)?;
         assert_eq!(rt; (code.length(), code.dimension()), (7, 1));
         assert_eq!(rt; (code.distance(), code.working_length()), (3, 24));
         let mut memory = [170; 25];
@@ -260,9 +216,9 @@ mod tests {
 
     #[test]
     fn joins_of_joins_of_it_mend(rt: HostRuntime) -> Result<(), Fail> {
-        let left = made(Plotkin::new(Powers, Powers))?;
-        let right = made(DirectSum::new(Powers, Powers))?;
-        let code = made(Plotkin::new(left, right))?;
+        let left = Plotkin::new(Powers, Powers)?;
+        let right = DirectSum::new(Powers, Powers)?;
+        let code = Plotkin::new(left, right)?;
         assert_eq!(rt; (code.length(), code.dimension()), (16, 4));
         assert_eq!(rt; (code.distance(), code.working_length()), (3, 60));
         let mut memory = [170; 61];

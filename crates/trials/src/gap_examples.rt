@@ -1,7 +1,7 @@
 // Puncturing and shortening, call by call, and what they do to bytes.
 #[cfg(test)]
 mod tests {
-    use crate::number;
+    use crate::{making_number, number};
     use alphabets::Two;
     use codes::code::Code;
     use codes::refusals::MakingRefusal;
@@ -13,32 +13,16 @@ mod tests {
     use shorten::Shorten;
     use std::test::Fail;
 
-    fn punctured() -> Result<Puncture<Hexacode>, Fail> {
-        let Ok(code) = Puncture::new(Hexacode, 2) else {
-            return Err(Fail::new("not made"));
-        };
-        Ok(code)
+    fn punctured() -> Result<Puncture<Hexacode>, MakingRefusal> {
+        Puncture::new(Hexacode, 2)
     }
 
-    fn shortened() -> Result<Shorten<Hamming>, Fail> {
-        let Ok(code) = Shorten::new(Hamming, 0) else {
-            return Err(Fail::new("not made"));
-        };
-        Ok(code)
+    fn shortened() -> Result<Shorten<Hamming>, MakingRefusal> {
+        Shorten::new(Hamming, 0)
     }
 
-    fn one_symbol() -> Result<Repetition<Two>, Fail> {
-        let Ok(code) = Repetition::new(1) else {
-            return Err(Fail::new("not made"));
-        };
-        Ok(code)
-    }
-
-    fn refusal<C: Drop>(made: Result<C, MakingRefusal>) -> u8 {
-        match made {
-            Ok(_) => 0,
-            Err(refusal) => refusal.number(),
-        }
+    fn one_symbol() -> Result<Repetition<Two>, MakingRefusal> {
+        Repetition::new(1)
     }
 
     #[test]
@@ -118,9 +102,7 @@ mod tests {
 
     #[test]
     fn a_shortened_hexacode_mends_a_mark_and_a_wrong_place(rt: HostRuntime) -> Result<(), Fail> {
-        let Ok(code) = Shorten::new(Hexacode, 0) else {
-            return Err(Fail::new("not made"));
-        };
+        let code = Shorten::new(Hexacode, 0)?;
         let mut memory = [2, 255, 1, 0, 3, 170, 170, 170, 170, 170, 170, 170, 77];
         assert_eq!(rt; number(code.mend(&mut memory)), 0);
         assert_eq!(rt; memory, [2, 3, 1, 0, 2, 0, 0, 0, 0, 0, 0, 0, 77]);
@@ -133,12 +115,12 @@ mod tests {
 
     #[test]
     fn makings_are_refused_in_their_order(rt: HostRuntime) -> Result<(), Fail> {
-        assert_eq!(rt; refusal(Puncture::new(one_symbol()?, 1)), 7);
-        assert_eq!(rt; refusal(Puncture::new(one_symbol()?, 0)), 8);
-        assert_eq!(rt; refusal(Shorten::new(one_symbol()?, 1)), 7);
-        assert_eq!(rt; refusal(Shorten::new(one_symbol()?, 0)), 9);
-        assert_eq!(rt; refusal(Shorten::new(punctured()?, 2)), 10);
-        assert_eq!(rt; refusal(Shorten::new(punctured()?, 1)), 0);
+        assert_eq!(rt; making_number(Puncture::new(one_symbol()?, 1)), 7);
+        assert_eq!(rt; making_number(Puncture::new(one_symbol()?, 0)), 8);
+        assert_eq!(rt; making_number(Shorten::new(one_symbol()?, 1)), 7);
+        assert_eq!(rt; making_number(Shorten::new(one_symbol()?, 0)), 9);
+        assert_eq!(rt; making_number(Shorten::new(punctured()?, 2)), 10);
+        assert_eq!(rt; making_number(Shorten::new(punctured()?, 1)), 0);
         Ok(())
     }
 }

@@ -3,24 +3,19 @@
 mod tests {
     use crate::number;
     use alphabets::Two;
+    use codes::refusals::MakingRefusal;
     use codes::code::Code;
     use direct_sum::DirectSum;
     use hexacode::Hexacode;
     use repetition::Repetition;
     use std::test::Fail;
 
-    fn copies(n: usize) -> Result<Repetition<Two>, Fail> {
-        let Ok(code) = Repetition::new(n) else {
-            return Err(Fail::new("not made"));
-        };
-        Ok(code)
+    fn copies(n: usize) -> Result<Repetition<Two>, MakingRefusal> {
+        Repetition::new(n)
     }
 
-    fn split() -> Result<DirectSum<Repetition<Two>, Repetition<Two>>, Fail> {
-        let Ok(code) = DirectSum::new(copies(1)?, copies(2)?) else {
-            return Err(Fail::new("not made"));
-        };
-        Ok(code)
+    fn split() -> Result<DirectSum<Repetition<Two>, Repetition<Two>>, MakingRefusal> {
+        DirectSum::new(copies(1)?, copies(2)?)
     }
 
     #[test]
@@ -62,9 +57,7 @@ mod tests {
 
     #[test]
     fn a_sum_of_hexacodes_mends_damage_in_both_parts(rt: HostRuntime) -> Result<(), Fail> {
-        let Ok(code) = DirectSum::new(Hexacode, Hexacode) else {
-            return Err(Fail::new("not made"));
-        };
+        let code = DirectSum::new(Hexacode, Hexacode)?;
         let mut memory = [170; 25];
         memory[0..12].copy_from_slice(&[1, 2, 255, 0, 3, 0, 1, 0, 0, 2, 3, 2]);
         assert_eq!(rt; number(code.mend(&mut memory)), 0);

@@ -2,9 +2,9 @@
 #![tactic(auto)]
 
 ghost use Rattle.std.specs.Prelude.{◌≡◌};
-ghost use Rattle.trials.specs.Answers.{number_of};
+ghost use Rattle.trials.specs.Answers.{number_of, making_number_of};
 
-use codes::refusals::Refusal;
+use codes::refusals::{MakingRefusal, Refusal};
 
 /// The number of a refusal, or 0 for an accepted call.
 pub fn number(answer: Result<(), Refusal>) -> u8
@@ -12,6 +12,16 @@ pub fn number(answer: Result<(), Refusal>) -> u8
 {
     match answer {
         Ok(()) => 0,
+        Err(refusal) => refusal.number(),
+    }
+}
+
+/// The number of a refused making, or 0 for a code that was made.
+pub fn making_number<C: Drop>(answer: Result<C, MakingRefusal>) -> u8
+    ensures { result ≡ making_number_of answer }
+{
+    match answer {
+        Ok(_) => 0,
         Err(refusal) => refusal.number(),
     }
 }

@@ -1,7 +1,7 @@
 // Plotkin joins, call by call: the four-symbol pile of parity and the hexacode.
 #[cfg(test)]
 mod tests {
-    use crate::number;
+    use crate::{making_number, number};
     use alphabets::{Four, Two};
     use codes::code::{Code, Showing};
     use codes::memory::copy_between;
@@ -19,34 +19,20 @@ mod tests {
 
     type Thrice = Plotkin<Twice, Twice>;
 
-    fn made<C: Drop>(answer: Result<C, MakingRefusal>) -> Result<C, Fail> {
-        match answer {
-            Ok(code) => Ok(code),
-            Err(_) => Err(Fail::new("not made")),
-        }
+    fn four_pile() -> Result<Plotkin<Parity<Four>, Hexacode>, MakingRefusal> {
+        Plotkin::new(Parity::new(6)?, Hexacode)
     }
 
-    fn refusal<C: Drop>(answer: Result<C, MakingRefusal>) -> u8 {
-        match answer {
-            Ok(_) => 0,
-            Err(refusal) => refusal.number(),
-        }
+    fn once() -> Result<Once, MakingRefusal> {
+        Plotkin::new(Parity::new(64)?, Parity::new(64)?)
     }
 
-    fn four_pile() -> Result<Plotkin<Parity<Four>, Hexacode>, Fail> {
-        made(Plotkin::new(made(Parity::new(6))?, Hexacode))
+    fn twice() -> Result<Twice, MakingRefusal> {
+        Plotkin::new(once()?, once()?)
     }
 
-    fn once() -> Result<Once, Fail> {
-        made(Plotkin::new(made(Parity::new(64))?, made(Parity::new(64))?))
-    }
-
-    fn twice() -> Result<Twice, Fail> {
-        made(Plotkin::new(once()?, once()?))
-    }
-
-    fn thrice() -> Result<Thrice, Fail> {
-        made(Plotkin::new(twice()?, twice()?))
+    fn thrice() -> Result<Thrice, MakingRefusal> {
+        Plotkin::new(twice()?, twice()?)
     }
 
     // These 12 bytes, zeros up to place 30, and a byte that no call touches.
@@ -151,9 +137,9 @@ mod tests {
 
     #[test]
     fn makings_are_refused_in_their_order(rt: HostRuntime) -> Result<(), Fail> {
-        assert_eq!(rt; refusal(Plotkin::new(made(Parity::new(5))?, Hexacode)), 5);
-        assert_eq!(rt; refusal(Plotkin::new(thrice()?, twice()?)), 5);
-        assert_eq!(rt; refusal(Plotkin::new(thrice()?, thrice()?)), 6);
+        assert_eq!(rt; making_number(Plotkin::new(Parity::new(5)?, Hexacode)), 5);
+        assert_eq!(rt; making_number(Plotkin::new(thrice()?, twice()?)), 5);
+        assert_eq!(rt; making_number(Plotkin::new(thrice()?, thrice()?)), 6);
         Ok(())
     }
 }
