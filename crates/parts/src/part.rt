@@ -1,0 +1,78 @@
+// A code below a join: its numbers, and its calls in a middle part of the memory that is lent to the join.
+ghost use Rattle.std.specs.Prelude.{◌≡◌, true, is_some, IfSome};
+ghost use Rattle.codes.specs.Refusals.{outcome};
+ghost use Rattle.parts.specs.Numbers.{NumbersOf};
+ghost use Rattle.theory.specs.Calls.{sent, mended, read_back};
+ghost use Rattle.theory.specs.Parts.{call_in_part};
+
+use crate::asked::numbers_of;
+use crate::calls::call_in_part;
+use crate::numbers::Numbers;
+use codes::code::Code;
+use codes::refusals::Refusal;
+
+/// A code and its numbers, asked once.
+#[derive(Drop)]
+pub struct Part<C: Code> {
+    pub code: C,
+    pub numbers: Numbers,
+    pub ghost asked: { C.Code.fit code → NumbersOf numbers (C.Code.meaning code) },
+}
+
+impl<C: Code + Drop> Part<C> {
+    /// The code with its numbers, or None where no fit code could have them; the code is used up then.
+    pub fn new(code: C) -> Option<Part<C>>
+        ensures keeps_the_code { IfSome result (λ part. part.code ≡ code) }
+        ensures every_fit_code { C.Code.fit code → is_some result ≡ true }
+    {
+        let numbers = numbers_of(&code)?;
+        Some(Part { code, numbers })
+    }
+}
+
+impl<C: Code> Part<C> {
+    /// Sends the message at `from` in the part at `at`.
+    pub fn send(&self, memory: &mut [u8], from: usize, at: usize) -> Result<(), Refusal>
+        ensures { C.Code.fit self.now.code → (outcome result, memory.new) ≡ call_in_part (sent C.Symbols.Alphabet.symbols (C.Code.meaning self.now.code)) from self.now.numbers.dimension at self.now.numbers.working memory.old }
+    {
+        let count = self.numbers.dimension;
+        call_in_part(
+            |part| self.code.send(part),
+            memory,
+            from,
+            count,
+            at,
+            self.numbers.working,
+        )
+    }
+
+    /// Mends the received word at `from` in the part at `at`.
+    pub fn mend(&self, memory: &mut [u8], from: usize, at: usize) -> Result<(), Refusal>
+        ensures { C.Code.fit self.now.code → (outcome result, memory.new) ≡ call_in_part (mended C.Symbols.Alphabet.symbols (C.Code.meaning self.now.code)) from self.now.numbers.length at self.now.numbers.working memory.old }
+    {
+        let count = self.numbers.length;
+        call_in_part(
+            |part| self.code.mend(part),
+            memory,
+            from,
+            count,
+            at,
+            self.numbers.working,
+        )
+    }
+
+    /// Reads the word at `from` in the part at `at`.
+    pub fn read(&self, memory: &mut [u8], from: usize, at: usize) -> Result<(), Refusal>
+        ensures { C.Code.fit self.now.code → (outcome result, memory.new) ≡ call_in_part (read_back C.Symbols.Alphabet.symbols (C.Code.meaning self.now.code)) from self.now.numbers.length at self.now.numbers.working memory.old }
+    {
+        let count = self.numbers.length;
+        call_in_part(
+            |part| self.code.read(part),
+            memory,
+            from,
+            count,
+            at,
+            self.numbers.working,
+        )
+    }
+}
