@@ -1,5 +1,5 @@
 // A code below a join: its numbers, and its calls in a middle part of the memory that is lent to the join.
-ghost use Rattle.std.specs.Prelude.{◌≡◌, true, is_some, IfSome};
+ghost use Rattle.std.specs.Prelude.{◌≡◌, IfOk, IsOk};
 ghost use Rattle.codes.specs.Refusals.{outcome};
 ghost use Rattle.parts.specs.Numbers.{NumbersOf};
 ghost use Rattle.theory.specs.Calls.{sent, mended, read_back};
@@ -9,7 +9,7 @@ use crate::asked::numbers_of;
 use crate::calls::call_in_part;
 use crate::numbers::Numbers;
 use codes::code::Code;
-use codes::refusals::Refusal;
+use codes::refusals::{MakingRefusal, Refusal};
 
 /// A code and its numbers, asked once.
 #[derive(Drop)]
@@ -20,13 +20,15 @@ pub struct Part<C: Code> {
 }
 
 impl<C: Code + Drop> Part<C> {
-    /// The code with its numbers, or None where no fit code could have them; the code is used up then.
-    pub fn new(code: C) -> Option<Part<C>>
-        ensures keeps_the_code { IfSome result (λ part. part.code ≡ code) }
-        ensures every_fit_code { C.Code.fit code → is_some result ≡ true }
+    /// The code with its numbers; refused where no fit code could have them, and the code is used up then.
+    pub fn new(code: C) -> Result<Part<C>, MakingRefusal>
+        ensures keeps_the_code { IfOk result (λ part. part.code ≡ code) }
+        ensures every_fit_code { C.Code.fit code → IsOk result }
     {
-        let numbers = numbers_of(&code)?;
-        Some(Part { code, numbers })
+        let Some(numbers) = numbers_of(&code) else {
+            return Err(MakingRefusal::WorkingTooLong);
+        };
+        Ok(Part { code, numbers })
     }
 }
 
