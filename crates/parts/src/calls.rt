@@ -9,12 +9,12 @@ use codes::refusals::Refusal;
 
 /// Moves `count` bytes from `from` on to the part of `working` bytes at `at`, and calls `f` there.
 pub fn call_in_part<F: FnOnce(&mut [u8]) -> Result<(), Refusal>>(
-    f: F,
     memory: &mut [u8],
     from: usize,
     count: usize,
     at: usize,
     working: usize,
+    f: F,
 ) -> Result<(), Refusal>
     requires { F.IsAlwaysCallable f }
     ensures { (call : Call) → Computes F.FnOnce f call → (outcome result, memory.new) ≡ call_in_part call from count at working memory.old }

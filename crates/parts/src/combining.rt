@@ -1,15 +1,15 @@
 // Two words in memory put together place by place: their sum, or the one less the other.
 ghost use Rattle.std.specs.Prelude.{◌≡◌, ℕ, ◌+◌};
 ghost use Rattle.parts.specs.Combining.{PutsTogether};
-ghost use Rattle.theory.specs.Alphabets.{plus, minus};
 ghost use Rattle.theory.specs.Combining.{readable, combinable, combined};
+ghost use Rattle.theory.specs.Halves.{byte_less};
 
 use alphabets::Alphabet;
 use codes::memory::has_range;
 
 /// A byte less another; a mark where either is one.
 pub fn subtract<S: Alphabet>(x: u8, y: u8) -> u8
-    ensures { result ≡ plus S.Alphabet.symbols x (minus S.Alphabet.symbols y) }
+    ensures { result ≡ byte_less S.Alphabet.symbols x y }
 {
     S::add(x, S::negate(y))
 }
@@ -35,12 +35,12 @@ pub fn can_combine(len: usize, left: usize, right: usize, count: usize, to: usiz
 /// Puts the `count` bytes from `left` on and those from `right` on together by `put`, and writes them from `to` on;
 /// changes nothing where that cannot be.
 pub fn combine<F: Fn(u8, u8) -> u8>(
-    put: F,
     memory: &mut [u8],
     left: usize,
     right: usize,
     count: usize,
     to: usize,
+    put: F,
 )
     requires { F.IsAlwaysCallable put }
     ensures { (by : ℕ → ℕ → ℕ) → PutsTogether (F.post put) by → memory.new ≡ combined by memory.old left right count to }

@@ -37,14 +37,14 @@ impl<C: Code> Part<C> {
     pub fn send(&self, memory: &mut [u8], from: usize, at: usize) -> Result<(), Refusal>
         ensures { C.Code.fit self.now.code → (outcome result, memory.new) ≡ call_in_part (sent C.Symbols.Alphabet.symbols (C.Code.meaning self.now.code)) from self.now.numbers.dimension at self.now.numbers.working memory.old }
     {
-        let count = self.numbers.dimension;
+        let own = self.numbers;
         call_in_part(
-            |part| self.code.send(part),
             memory,
             from,
-            count,
+            own.dimension,
             at,
-            self.numbers.working,
+            own.working,
+            |part| self.code.send(part),
         )
     }
 
@@ -52,14 +52,14 @@ impl<C: Code> Part<C> {
     pub fn mend(&self, memory: &mut [u8], from: usize, at: usize) -> Result<(), Refusal>
         ensures { C.Code.fit self.now.code → (outcome result, memory.new) ≡ call_in_part (mended C.Symbols.Alphabet.symbols (C.Code.meaning self.now.code)) from self.now.numbers.length at self.now.numbers.working memory.old }
     {
-        let count = self.numbers.length;
+        let own = self.numbers;
         call_in_part(
-            |part| self.code.mend(part),
             memory,
             from,
-            count,
+            own.length,
             at,
-            self.numbers.working,
+            own.working,
+            |part| self.code.mend(part),
         )
     }
 
@@ -67,14 +67,14 @@ impl<C: Code> Part<C> {
     pub fn read(&self, memory: &mut [u8], from: usize, at: usize) -> Result<(), Refusal>
         ensures { C.Code.fit self.now.code → (outcome result, memory.new) ≡ call_in_part (read_back C.Symbols.Alphabet.symbols (C.Code.meaning self.now.code)) from self.now.numbers.length at self.now.numbers.working memory.old }
     {
-        let count = self.numbers.length;
+        let own = self.numbers;
         call_in_part(
-            |part| self.code.read(part),
             memory,
             from,
-            count,
+            own.length,
             at,
-            self.numbers.working,
+            own.working,
+            |part| self.code.read(part),
         )
     }
 }
