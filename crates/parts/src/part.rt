@@ -1,12 +1,14 @@
 // A code below a join: its numbers, and its calls in a middle part of the memory that is lent to the join.
-ghost use Rattle.std.specs.Prelude.{◌≡◌, IfOk, IsOk};
+ghost use Rattle.std.specs.Prelude.{◌≡◌, ◌-◌, IfOk, IsOk};
 ghost use Rattle.codes.specs.Refusals.{outcome};
 ghost use Rattle.parts.specs.Numbers.{NumbersOf};
 ghost use Rattle.theory.specs.Calls.{sent, mended, read_back};
+ghost use Rattle.theory.specs.Gaps.{widened};
 ghost use Rattle.theory.specs.Parts.{call_in_part};
 
 use crate::asked::numbers_of;
 use crate::calls::call_in_part;
+use crate::gaps::widen;
 use crate::numbers::Numbers;
 use codes::code::Code;
 use codes::refusals::{MakingRefusal, Refusal};
@@ -76,5 +78,15 @@ impl<C: Code> Part<C> {
             own.working,
             |part| self.code.read(part),
         )
+    }
+
+    /// Writes the word in front, with `value` put in at the place that it has lost, behind the first n bytes, n being the
+    /// code's length, and mends it there.
+    pub fn mend_widened(&self, memory: &mut [u8], place: usize, value: u8) -> Result<(), Refusal>
+        ensures { let n = self.now.numbers.length in C.Code.fit self.now.code → (outcome result, memory.new) ≡ call_in_part (mended C.Symbols.Alphabet.symbols (C.Code.meaning self.now.code)) n n n self.now.numbers.working (widened memory.old 0 (n - 1) place value n) }
+    {
+        let n = self.numbers.length;
+        widen(memory, 0, n.saturating_sub(1), place, value, n);
+        self.mend(memory, n, n)
     }
 }
