@@ -1,3 +1,3 @@
 mod Sizes
 mod Ways
-mod Outcomes
+mod Makings

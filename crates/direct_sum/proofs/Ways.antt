@@ -1,20 +1,29 @@
 -- The calls of the sum at the numbers that it keeps. Assumes nothing.
-use Rattle.std.proofs.Common.{◌≡◌, ℕ, ◌+◌, ◌-◌, List, [], sym, ap, ◌∙◌, subst, arith}
+use Rattle.std.proofs.Common.{◌≡◌, ℕ, ◌+◌, ◌-◌, ◌≤◌, List, [], sym, ap, ◌∙◌, subst, arith}
+use Rattle.parts.specs.Numbers.{NumbersOf}
+use Rattle.parts.specs.declared.numbers.Numbers.{Numbers}
 use Rattle.theory.specs.Alphabets.{Arithmetic, Lawful}
 use Rattle.theory.specs.Calls.{accepted, refused}
 use Rattle.theory.specs.Joins.{direct_sum}
 use Rattle.theory.specs.Meanings.{Meaning, Keeps}
 use Rattle.theory.specs.Memory.{cleared, gathered}
 use Rattle.theory.proofs.Calls.{paired}
+use Rattle.theory.proofs.DirectSum.{direct_sum_keeps}
 use Rattle.theory.proofs.SumCalls.{sum_sends, sum_mends_parts, none_by_left, none_by_right, none_by_toll, sum_refuses, sum_mends, tolls_stand}
 use Rattle.theory.proofs.SumReads.{sum_reads_parts, no_word_by_left, no_word_by_right, sum_reads_no_word, sum_reads}
-use Rattle.direct_sum.proofs.Sizes.{Sizes, sizes_of, Sends, whole_toll, Mends, Reads}
+use Rattle.direct_sum.proofs.Sizes.{sizes_of, kept, kept_are, Sends, whole_toll, Mends, Reads}
 
-module _ (A : Arithmetic) (laws : Lawful A) (u v : Meaning) (keeps-u : Keeps A u) (keeps-v : Keeps A v) (z : Sizes) (same : sizes_of u v ≡ z) where
-  pub sends : Sends A u v z
+module _ {A : Arithmetic} {u v : Meaning} {nu nv : Numbers} (laws : Lawful A) (keeps-u : Keeps A u) (keeps-v : Keeps A v) (of-u : NumbersOf nu u) (of-v : NumbersOf nv v) where
+  same : sizes_of u v ≡ kept nu nv
+  same = kept_are nu nv u v of-u of-v
+
+  pub sends : Sends A u v (kept nu nv)
   sends = subst (Sends A u v) same (λ xs room none o o' ys zs r l. sum_sends A laws u v keeps-u keeps-v xs room none o o' ys zs r l)
 
-  module _ (keeps : Keeps A (direct_sum u v)) where
+  module _ (bounded : nu.length + nv.length + nu.working + nv.working ≤ 4096) where
+    keeps : Keeps A (direct_sum u v)
+    keeps = direct_sum_keeps A laws u v keeps-u keeps-v (omega (arith, of-u.length, of-u.working, of-v.length, of-v.working))
+
     mends_at : Mends A u v (sizes_of u v)
     mends_at xs room o o' ys zs r l =
         let p = sum_mends_parts A laws u v keeps-u keeps-v xs room o o' ys zs r l in
@@ -29,7 +38,7 @@ module _ (A : Arithmetic) (laws : Lawful A) (u v : Meaning) (keeps-u : Keeps A u
               ∙ sum_mends A laws u v keeps-u keeps-v xs room keeps (sym p.1 ∙ b) (sym p.0 ∙ a) (omega (arith, h, toll_is));
         }
 
-    pub mends : Mends A u v z
+    pub mends : Mends A u v (kept nu nv)
     mends = subst (Mends A u v) same mends_at
 
     reads_at : Reads A u v (sizes_of u v)
@@ -44,5 +53,5 @@ module _ (A : Arithmetic) (laws : Lawful A) (u v : Meaning) (keeps-u : Keeps A u
               ∙ sum_reads A u v keeps-u keeps-v xs room keeps (sym p.1 ∙ b) (sym p.0 ∙ a);
         }
 
-    pub reads : Reads A u v z
+    pub reads : Reads A u v (kept nu nv)
     reads = subst (Reads A u v) same reads_at

@@ -1,6 +1,5 @@
 -- Results of calls as outcomes. Assumes nothing.
-use Rattle.std.proofs.Common.{◌≡◌, ℕ, true, false, is_err, Some, None, Ok, Err, Option, Result, sym, refl, ap, ◌∙◌}
-use Rattle.std.specs.Option.{SomeIff}
+use Rattle.std.proofs.Common.{◌≡◌, true, false, is_err, Ok, Err, Result, sym, refl, ap, ◌∙◌}
 use Rattle.std.proofs.lemmas.Bool.{both_ways}
 use Rattle.codes.specs.Refusals.{refusal_number, refusal_values, outcome}
 use Rattle.codes.specs.declared.refusals.Refusal.{Refusal}
@@ -18,7 +17,3 @@ module _ {T : Type 0} where
 
   pub err_is_refused : (r : Result T Refusal) (e : Refusal) → r ≡ Err e → outcome r ≡ accepted → ⊥
   err_is_refused r e is h = not_accepted (refusal_number e) (refusal_values e) (sym (ap outcome is) ∙ h)
-
-pub checked_some : (r : Option ℕ) (P : Type 0) (v : ℕ) → SomeIff r P v → P → r ≡ Some v
-checked_some None P v h p = absurd (h p)
-checked_some (Some x) P v h p = ap Some h.1

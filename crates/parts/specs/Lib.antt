@@ -1,3 +1,4 @@
 pub mod Numbers
 pub mod Combining
 pub mod Nearness
+pub mod Called

@@ -1,20 +1,17 @@
 // Two words in memory put together place by place: their sum, or the one less the other.
-ghost use Rattle.std.specs.Prelude.{◌≡◌, ◌+◌};
-ghost use Rattle.parts.specs.Combining.{placewise};
+ghost use Rattle.std.specs.Prelude.{◌≡◌, ℕ, ◌+◌};
+ghost use Rattle.parts.specs.Combining.{PutsTogether};
 ghost use Rattle.theory.specs.Combining.{readable, combinable, combined};
+ghost use Rattle.theory.specs.Halves.{byte_less};
 
-use crate::combination::Combination;
 use alphabets::Alphabet;
 use codes::memory::has_range;
 
-/// The sum of two bytes, or the one less the other; a mark where either is one.
-pub fn combine_bytes<S: Alphabet>(combination: Combination, x: u8, y: u8) -> u8
-    ensures { result ≡ placewise S.Alphabet.symbols combination x y }
+/// A byte less another; a mark where either is one.
+pub fn subtract<S: Alphabet>(x: u8, y: u8) -> u8
+    ensures { result ≡ byte_less S.Alphabet.symbols x y }
 {
-    match combination {
-        Combination::Sum => S::add(x, y),
-        Combination::Difference => S::add(x, S::negate(y)),
-    }
+    S::add(x, S::negate(y))
 }
 
 /// Whether `count` bytes from `from` on are each read before a write that goes up from `to` reaches them.
@@ -35,22 +32,24 @@ pub fn can_combine(len: usize, left: usize, right: usize, count: usize, to: usiz
         && is_readable(right, count, to)
 }
 
-/// Puts the `count` bytes from `left` on and those from `right` on together, and writes them from `to` on; changes
-/// nothing where that cannot be.
-pub fn combine<S: Alphabet>(
+/// Puts the `count` bytes from `left` on and those from `right` on together by `put`, and writes them from `to` on;
+/// changes nothing where that cannot be.
+pub fn combine<F: Fn(u8, u8) -> u8>(
     memory: &mut [u8],
-    combination: Combination,
     left: usize,
     right: usize,
     count: usize,
     to: usize,
+    put: F,
 )
-    ensures { memory.new ≡ combined (placewise S.Alphabet.symbols combination) memory.old left right count to }
+    requires { F.IsAlwaysCallable put }
+    ensures { (by : ℕ → ℕ → ℕ) → PutsTogether (F.post put) by → memory.new ≡ combined by memory.old left right count to }
 {
     if !can_combine(memory.len(), left, right, count, to) {
         return;
     }
+    // By index: the bytes that are read and those that are written are of one slice, and may overlap.
     for i in 0..count {
-        memory[to + i] = combine_bytes::<S>(combination, memory[left + i], memory[right + i]);
+        memory[to + i] = put(memory[left + i], memory[right + i]);
     }
 }

@@ -1,4 +1,5 @@
-// A place more or a place less: what puncturing and shortening do to words, messages and carriers.
+// A place more or a place less: what puncturing and shortening do to words, messages and carriers. The numbers of a range stay
+// apart, as in the definitions that the contracts cite: a struct of them would be no plainer, as each is used once.
 ghost use Rattle.std.specs.Prelude.{◌≡◌};
 ghost use Rattle.theory.specs.Gaps.{widens, widened, narrows, narrowed, narrowed_to_front};
 ghost use Rattle.theory.specs.Joins.{carrier_without};

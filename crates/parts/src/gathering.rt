@@ -1,4 +1,4 @@
-// Putting the results of two parts together.
+// Putting the results of two parts together. The numbers stay apart, as in the definition that the contract cites.
 ghost use Rattle.std.specs.Prelude.{◌≡◌};
 ghost use Rattle.theory.specs.Memory.{gathered};
 

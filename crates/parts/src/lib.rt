@@ -4,11 +4,11 @@
 
 pub mod asked;
 pub mod calls;
-pub mod combination;
 pub mod combining;
 pub mod gaps;
 pub mod gathering;
 pub mod nearness;
 pub mod numbers;
+pub mod part;
 pub mod placed;
 pub mod showing;

@@ -1,10 +1,9 @@
 -- The calls of the join at the numbers that it keeps. Assumes nothing.
-use Rattle.std.proofs.Common.{◌≡◌, ◌*◌, min, sym, subst}
+use Rattle.std.proofs.Common.{◌≡◌, ◌+◌, ◌*◌, ◌≤◌, min, sym, ◌∙◌, subst}
 use Rattle.parts.specs.Numbers.{NumbersOf}
 use Rattle.parts.specs.declared.numbers.Numbers.{Numbers}
-use Rattle.plotkin.specs.Kept.{kept}
+use Rattle.plotkin.specs.Kept.{kept, keeps_meaning}
 use Rattle.theory.specs.Alphabets.{Arithmetic, Lawful}
-use Rattle.theory.specs.Halves.{Halves}
 use Rattle.theory.specs.Joins.{plotkin}
 use Rattle.theory.specs.Meanings.{Meaning, Keeps}
 use Rattle.theory.proofs.HalfCalls.{halves_of}
@@ -16,13 +15,22 @@ pub kept_are : (u v : Numbers) (m k : Meaning) → NumbersOf u m → NumbersOf v
 kept_are u v m k hu hv =
     λ i. record { n = sym hu.length i; ku = sym hu.dimension i; kv = sym hv.dimension i; wu = sym hu.working i; wv = sym hv.working i; d = min (2 * sym hu.distance i) (sym hv.distance i) }
 
-module _ (A : Arithmetic) (laws : Lawful A) (u v : Meaning) (keeps-u : Keeps A u) (keeps-v : Keeps A v) (level : u.n ≡ v.n) (h : Halves) (is : halves_of u v ≡ h) where
-  pub sends : Sends A u v h
-  sends = subst (Sends A u v) is (λ xs room none o o' ys zs ws r l. plotkin_sends A laws u v keeps-u keeps-v level xs room none o o' ys zs ws r l)
+module _ {A : Arithmetic} {u v : Meaning} {nu nv : Numbers} (laws : Lawful A) (keeps-u : Keeps A u) (keeps-v : Keeps A v) (of-u : NumbersOf nu u) (of-v : NumbersOf nv v) (level : nu.length ≡ nv.length) where
+  halves : halves_of u v ≡ kept nu nv
+  halves = kept_are nu nv u v of-u of-v
 
-  module _ (keeps : Keeps A (plotkin A u v)) where
-    pub mends : Mends A u v h
-    mends = subst (Mends A u v) is (λ xs room ds e o ys call. plotkin_mends A laws u v keeps-u keeps-v level xs room keeps ds e o ys call)
+  flat : u.n ≡ v.n
+  flat = sym of-u.length ∙ level ∙ of-v.length
 
-    pub reads : Reads A u v h
-    reads = subst (Reads A u v) is (λ xs room ds e o o' ys zs r l. plotkin_reads A laws u v keeps-u keeps-v level xs room keeps ds e o o' ys zs r l)
+  pub sends : Sends A u v (kept nu nv)
+  sends = subst (Sends A u v) halves (λ xs room none o o' ys zs ws r l. plotkin_sends A laws u v keeps-u keeps-v flat xs room none o o' ys zs ws r l)
+
+  module _ (bounded : 3 * nu.length + nu.working + nv.working ≤ 4096) where
+    keeps : Keeps A (plotkin A u v)
+    keeps = keeps_meaning laws keeps-u keeps-v of-u of-v level bounded
+
+    pub mends : Mends A u v (kept nu nv)
+    mends = subst (Mends A u v) halves (λ xs room ds e o ys call. plotkin_mends A laws u v keeps-u keeps-v flat xs room keeps ds e o ys call)
+
+    pub reads : Reads A u v (kept nu nv)
+    reads = subst (Reads A u v) halves (λ xs room ds e o o' ys zs r l. plotkin_reads A laws u v keeps-u keeps-v flat xs room keeps ds e o o' ys zs r l)

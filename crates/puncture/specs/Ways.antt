@@ -10,7 +10,7 @@ use Rattle.theory.specs.Meanings.{Meaning, Keeps}
 use Rattle.theory.proofs.Puncture.{puncture_keeps}
 use Rattle.theory.proofs.PunctureCalls.{PunctureSends, PunctureMends, PunctureReads, puncture_sends, puncture_mends, puncture_reads}
 
-module _ (A : Arithmetic) (laws : Lawful A) (m : Meaning) (keeps : Keeps A m) (place : ℕ) (whole : Numbers) (numbers : NumbersOf whole m) (within : place < whole.length) (apart : 2 ≤ whole.distance) (bounded : whole.working + whole.length ≤ 4096) where
+module _ {A : Arithmetic} {m : Meaning} {place : ℕ} {whole : Numbers} (laws : Lawful A) (keeps : Keeps A m) (numbers : NumbersOf whole m) (within : place < whole.length) (apart : 2 ≤ whole.distance) (bounded : whole.working + whole.length ≤ 4096) where
   there : place < m.n
   there = omega (arith, numbers.length)
 

@@ -10,7 +10,7 @@ use Rattle.theory.specs.Meanings.{Meaning, Keeps}
 use Rattle.theory.proofs.Shorten.{shorten_keeps}
 use Rattle.theory.proofs.ShortenCalls.{ShortenSends, ShortenMends, ShortenReads, shorten_sends, shorten_mends, shorten_reads}
 
-module _ (A : Arithmetic) (laws : Lawful A) (m : Meaning) (keeps : Keeps A m) (place lost : ℕ) (carrier-is : m.carrier place ≡ Some lost) (whole : Numbers) (numbers : NumbersOf whole m) (within : place < whole.dimension) (remains : 2 ≤ whole.dimension) (bounded : whole.working + whole.length ≤ 4096) where
+module _ {A : Arithmetic} {m : Meaning} {place lost : ℕ} {whole : Numbers} (laws : Lawful A) (keeps : Keeps A m) (carrier-is : m.carrier place ≡ Some lost) (numbers : NumbersOf whole m) (within : place < whole.dimension) (remains : 2 ≤ whole.dimension) (bounded : whole.working + whole.length ≤ 4096) where
   there : place < m.k
   there = omega (arith, numbers.dimension)
 

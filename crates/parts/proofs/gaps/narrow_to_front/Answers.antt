@@ -8,11 +8,11 @@ pub returns-then-count-end : goal.returns-then-count-end
 returns-then-count-end c =
     let left = c.args.count - 1 in
     c.clear.ensures ∙ ap (λ (z : List ℕ). cleared z left (c.args.end - left)) c.narrow.ensures
-    ∙ narrowed_to_front_lem c.args.memory.now c.args.from c.args.count c.args.place c.args.end c.if-place-count.true c.if-count-end.true
+    ∙ narrowed_to_front_lem _ _ _ _ _ c.if-place-count.true c.if-count-end.true
 
 pub returns-else-place-count : goal.returns-else-place-count
 returns-else-place-count c =
     elim c.else-place-count.branch [
-      | else-place-count-via-then-place-count+else-count-end w ↦ narrowed_too_long c.args.memory.now c.args.from c.args.count c.args.place c.args.end w.if-count-end.false
-      | else-place-count-via-else-place-count w ↦ narrowed_no_place c.args.memory.now c.args.from c.args.count c.args.place c.args.end w.if-place-count.false
+      | else-place-count-via-then-place-count+else-count-end w ↦ narrowed_too_long _ _ _ _ _ w.if-count-end.false
+      | else-place-count-via-else-place-count w ↦ narrowed_no_place _ _ _ _ _ w.if-place-count.false
     ]

@@ -7,8 +7,7 @@ pub returns-then-has_room_to_widen : goal.returns-then-has_room_to_widen
 returns-then-has_room_to_widen c =
     c.move_within-then-has_room_to_widen.ensures
     ∙ ap (λ (z : List ℕ). moved (set z (c.args.to + c.args.place) c.args.value) c.args.from c.args.place c.args.to) c.move_within.ensures
-    ∙ widened_by_pieces c.args.memory.now c.args.from c.args.count c.args.place c.args.value c.args.to (sym c.if-has_room_to_widen.ensures)
+    ∙ widened_by_pieces _ _ _ _ _ _ (sym c.if-has_room_to_widen.ensures)
 
 pub returns-else-has_room_to_widen : goal.returns-else-has_room_to_widen
-returns-else-has_room_to_widen c =
-    sym (widened_not c.args.memory.now c.args.from c.args.count c.args.place c.args.value c.args.to (sym c.if-has_room_to_widen.ensures))
+returns-else-has_room_to_widen c = sym (widened_not _ _ _ _ _ _ (sym c.if-has_room_to_widen.ensures))

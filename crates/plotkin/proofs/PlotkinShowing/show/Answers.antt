@@ -1,28 +1,51 @@
-use Rattle.std.proofs.Common.{◌+◌, ◌*◌, leb, sym, ◌∙◌, ap₂, arith}
+use Rattle.std.proofs.Common.{arith, leb, sym, ◌*◌, ◌∙◌}
 use Rattle.std.proofs.lemmas.Bool.{le-leb, lt-leb}
-use Rattle.theory.specs.Piles.{pile_of, pair_of, making_of, plotkin_pair}
 use Rattle.theory.specs.Joins.{plotkin}
 use Rattle.theory.proofs.Plotkin.{plotkin_shows}
 use Rattle.theory.proofs.Padding.{shown_by_left, shown_by_right}
-use Rattle.theory.proofs.Piles.{pair_by_lem, shown_pair_is_at_the_distance}
+use Rattle.theory.proofs.Piles.{shown_pair_is_at_the_distance}
 use Rattle.plotkin.proofs.PlotkinShowing.show.Goals as goal
 
-pub returns-then-self : goal.returns-then-self
-returns-then-self g c =
-    record {
-      answer = λ fit. c.show_padded.ensures fit.0 ∙ shown_by_left (g.U.Code.meaning c.args.self.now.left) (g.V.Code.meaning c.args.self.now.right) (plotkin g.U.Symbols.Alphabet.symbols (g.U.Code.meaning c.args.self.now.left) (g.V.Code.meaning c.args.self.now.right)) (g.U.Showing.pair c.args.self.now.left) (g.V.Showing.pair c.args.self.now.right) c.args.memory.now (2 * (3 * c.args.self.now.u.length + c.args.self.now.u.working + c.args.self.now.v.working)) c.args.self.now.v.dimension (omega (arith, fit.2.length, fit.2.working, fit.3.working)) (omega (arith, (g.met.U.Code.keeps c.args.self.now.left fit.0).room_for_message, (g.met.V.Code.keeps c.args.self.now.right fit.1).room_for_message)) (omega arith) fit.3.dimension (leb (2 * (g.U.Code.meaning c.args.self.now.left).d) (g.V.Code.meaning c.args.self.now.right).d) (le-leb (2 * (g.U.Code.meaning c.args.self.now.left).d) (g.V.Code.meaning c.args.self.now.right).d (omega (arith, c.if-self.true, fit.2.distance, fit.3.distance)));
-      at_distance = λ fit. plotkin_shows g.U.Symbols.Alphabet.symbols g.met.U.Symbols.Alphabet.lawful (g.U.Code.meaning c.args.self.now.left) (g.V.Code.meaning c.args.self.now.right) (g.met.U.Code.keeps c.args.self.now.left fit.0) (g.met.V.Code.keeps c.args.self.now.right fit.1) (sym fit.2.length ∙ c.args.self.now.level ∙ fit.3.length) (g.U.Showing.pair c.args.self.now.left) (g.V.Showing.pair c.args.self.now.right) (g.met.U.Showing.shows c.args.self.now.left fit.0) (g.met.V.Showing.shows c.args.self.now.right fit.1);
-      one_step_of_a_pile = λ p o e f i j.
-          pair_by_lem plotkin_pair (making_of g.U.Symbols.Alphabet.symbols (pile_of p)) (making_of g.U.Symbols.Alphabet.symbols (pile_of o)) (g.U.Code.meaning c.args.self.now.left) (g.V.Code.meaning c.args.self.now.right) (pair_of g.U.Symbols.Alphabet.symbols p) (pair_of g.U.Symbols.Alphabet.symbols o) e f ∙ ap₂ (plotkin_pair (g.U.Code.meaning c.args.self.now.left) (g.V.Code.meaning c.args.self.now.right)) i j;
-      shown_pair_is_at_the_distance = shown_pair_is_at_the_distance;
-    }
+pub returns-then-u-v-clause-answer : goal.returns-then-u-v-clause-answer
+returns-then-u-v-clause-answer g c fit =
+    let self = c.args.self.now in
+    let of-u = self.left.asked fit.0 in
+    let of-v = self.right.asked fit.1 in
+    let u = g.U.Code.meaning self.left.code in
+    let v = g.V.Code.meaning self.right.code in
+    let keeps-u = g.met.U.Code.keeps self.left.code fit.0 in
+    let keeps-v = g.met.V.Code.keeps self.right.code fit.1 in
+    c.show_padded.ensures fit.0
+    ∙ shown_by_left u v (plotkin g.U.Symbols.Alphabet.symbols u v) _ _ _ _ _ (omega arith) (omega (arith, keeps-u.room_for_message, keeps-v.room_for_message)) (omega arith) of-v.dimension (leb (2 * u.d) v.d) (le-leb (2 * u.d) v.d (omega arith))
 
-pub returns-else-self : goal.returns-else-self
-returns-else-self g c =
-    record {
-      answer = λ fit. c.show_padded-else-self.ensures fit.1 ∙ shown_by_right (g.U.Code.meaning c.args.self.now.left) (g.V.Code.meaning c.args.self.now.right) (plotkin g.U.Symbols.Alphabet.symbols (g.U.Code.meaning c.args.self.now.left) (g.V.Code.meaning c.args.self.now.right)) (g.U.Showing.pair c.args.self.now.left) (g.V.Showing.pair c.args.self.now.right) c.args.memory.now (2 * (3 * c.args.self.now.u.length + c.args.self.now.u.working + c.args.self.now.v.working)) c.args.self.now.u.dimension (omega (arith, fit.2.length, fit.2.working, fit.3.working)) (omega (arith, (g.met.U.Code.keeps c.args.self.now.left fit.0).room_for_message, (g.met.V.Code.keeps c.args.self.now.right fit.1).room_for_message)) (omega arith) fit.2.dimension (leb (2 * (g.U.Code.meaning c.args.self.now.left).d) (g.V.Code.meaning c.args.self.now.right).d) (lt-leb (2 * (g.U.Code.meaning c.args.self.now.left).d) (g.V.Code.meaning c.args.self.now.right).d (omega (arith, c.if-self.false, fit.2.distance, fit.3.distance)));
-      at_distance = λ fit. plotkin_shows g.U.Symbols.Alphabet.symbols g.met.U.Symbols.Alphabet.lawful (g.U.Code.meaning c.args.self.now.left) (g.V.Code.meaning c.args.self.now.right) (g.met.U.Code.keeps c.args.self.now.left fit.0) (g.met.V.Code.keeps c.args.self.now.right fit.1) (sym fit.2.length ∙ c.args.self.now.level ∙ fit.3.length) (g.U.Showing.pair c.args.self.now.left) (g.V.Showing.pair c.args.self.now.right) (g.met.U.Showing.shows c.args.self.now.left fit.0) (g.met.V.Showing.shows c.args.self.now.right fit.1);
-      one_step_of_a_pile = λ p o e f i j.
-          pair_by_lem plotkin_pair (making_of g.U.Symbols.Alphabet.symbols (pile_of p)) (making_of g.U.Symbols.Alphabet.symbols (pile_of o)) (g.U.Code.meaning c.args.self.now.left) (g.V.Code.meaning c.args.self.now.right) (pair_of g.U.Symbols.Alphabet.symbols p) (pair_of g.U.Symbols.Alphabet.symbols o) e f ∙ ap₂ (plotkin_pair (g.U.Code.meaning c.args.self.now.left) (g.V.Code.meaning c.args.self.now.right)) i j;
-      shown_pair_is_at_the_distance = shown_pair_is_at_the_distance;
-    }
+pub returns-then-u-v-clause-at_distance : goal.returns-then-u-v-clause-at_distance
+returns-then-u-v-clause-at_distance g c fit =
+    let self = c.args.self.now in
+    let of-u = self.left.asked fit.0 in
+    let of-v = self.right.asked fit.1 in
+    plotkin_shows _ g.met.U.Symbols.Alphabet.lawful _ _ (g.met.U.Code.keeps self.left.code fit.0) (g.met.V.Code.keeps self.right.code fit.1) (sym of-u.length ∙ self.level ∙ of-v.length) _ _ (g.met.U.Showing.shows self.left.code fit.0) (g.met.V.Showing.shows self.right.code fit.1)
+
+pub returns-then-u-v-clause-shown_pair_is_at_the_distance : goal.returns-then-u-v-clause-shown_pair_is_at_the_distance
+returns-then-u-v-clause-shown_pair_is_at_the_distance g c = shown_pair_is_at_the_distance
+
+pub returns-else-u-v-clause-answer : goal.returns-else-u-v-clause-answer
+returns-else-u-v-clause-answer g c fit =
+    let self = c.args.self.now in
+    let of-u = self.left.asked fit.0 in
+    let of-v = self.right.asked fit.1 in
+    let u = g.U.Code.meaning self.left.code in
+    let v = g.V.Code.meaning self.right.code in
+    let keeps-u = g.met.U.Code.keeps self.left.code fit.0 in
+    let keeps-v = g.met.V.Code.keeps self.right.code fit.1 in
+    c.show_padded-else-u-v.ensures fit.1
+    ∙ shown_by_right u v (plotkin g.U.Symbols.Alphabet.symbols u v) _ _ _ _ _ (omega arith) (omega (arith, keeps-u.room_for_message, keeps-v.room_for_message)) (omega arith) of-u.dimension (leb (2 * u.d) v.d) (lt-leb (2 * u.d) v.d (omega arith))
+
+pub returns-else-u-v-clause-at_distance : goal.returns-else-u-v-clause-at_distance
+returns-else-u-v-clause-at_distance g c fit =
+    let self = c.args.self.now in
+    let of-u = self.left.asked fit.0 in
+    let of-v = self.right.asked fit.1 in
+    plotkin_shows _ g.met.U.Symbols.Alphabet.lawful _ _ (g.met.U.Code.keeps self.left.code fit.0) (g.met.V.Code.keeps self.right.code fit.1) (sym of-u.length ∙ self.level ∙ of-v.length) _ _ (g.met.U.Showing.shows self.left.code fit.0) (g.met.V.Showing.shows self.right.code fit.1)
+
+pub returns-else-u-v-clause-shown_pair_is_at_the_distance : goal.returns-else-u-v-clause-shown_pair_is_at_the_distance
+returns-else-u-v-clause-shown_pair_is_at_the_distance g c = shown_pair_is_at_the_distance

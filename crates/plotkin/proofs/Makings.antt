@@ -1,0 +1,11 @@
+-- The making of the join, of codes whose parts have them. Assumes nothing.
+use Rattle.std.proofs.Common.{◌≡◌}
+use Rattle.theory.specs.Alphabets.{Arithmetic}
+use Rattle.theory.specs.Joins.{plotkin_making}
+use Rattle.theory.specs.Meanings.{Meaning, Making, made}
+use Rattle.theory.specs.Piles.{Pile, plotkin_of, making_of}
+use Rattle.theory.proofs.Makings.{two_made}
+
+-- what the making of two codes answers is what their piles with the join on top work out
+pub plotkin_on_pile : (A : Arithmetic) {u v : Meaning} {x : Making} → x ≡ plotkin_making A u v → (p o : Pile) → making_of A p ≡ made u → making_of A o ≡ made v → x ≡ making_of A (plotkin_of p o)
+plotkin_on_pile A {u} {v} {x} e p o f g = two_made (plotkin_making A) (making_of A p) (making_of A o) u v x e f g
