@@ -47,79 +47,81 @@ pub trait Alphabet {
     }
 }
 
-/// Q symbols that are added modulo Q.
-pub trait Modular {
-    const Q: u8;
-
-    const B: usize;
-
-    ghost Q: { ℕ };
-
-    ghost B: { ℕ };
-
-    ghost lawful: { Lawful (modular Q B) };
+/// The sum modulo `order` of two bytes below it; a mark where one is not.
+pub fn add_modulo(order: u8, x: u8, y: u8) -> u8
+    ensures { result ≡ plus (modular order 0) x y }
+{
+    if x >= order || y >= order {
+        return MARK;
+    }
+    ((u16::from(x) + u16::from(y)) % u16::from(order)) as u8
 }
 
-impl<M: Modular> Alphabet for M {
-    const Q: u8 = M::Q;
-
-    const B: usize = M::B;
-
-    ghost symbols = { modular M.Q M.B };
-
-    ghost Q = { M.Q };
-
-    ghost B = { M.B };
-
-    ghost order_is = { refl };
-
-    ghost width_is = { refl };
-
-    ghost lawful = { M.lawful };
-
-    fn add(x: u8, y: u8) -> u8 {
-        if x < M::Q && y < M::Q {
-            (x + y) % M::Q
-        } else {
-            MARK
-        }
-    }
-
-    fn negate(x: u8) -> u8 {
-        if x < M::Q { (M::Q - x) % M::Q } else { MARK }
-    }
+/// The negative modulo `order` of a byte below it; a mark where it is not.
+pub fn negate_modulo(order: u8, x: u8) -> u8
+    ensures { result ≡ minus (modular order 0) x }
+{
+    if x < order { (order - x) % order } else { MARK }
 }
 
 /// Two symbols, added modulo 2.
 #[derive(Clone, Copy)]
 pub struct Two;
 
-impl Modular for Two {
+impl Alphabet for Two {
     const Q: u8 = 2;
 
     const B: usize = 8;
+
+    ghost symbols = { two };
 
     ghost Q = { 2 };
 
     ghost B = { 8 };
 
+    ghost order_is = { refl };
+
+    ghost width_is = { refl };
+
     ghost lawful = { two_lawful };
+
+    fn add(x: u8, y: u8) -> u8 {
+        add_modulo(Two::Q, x, y)
+    }
+
+    fn negate(x: u8) -> u8 {
+        negate_modulo(Two::Q, x)
+    }
 }
 
 /// Three symbols, added modulo 3.
 #[derive(Clone, Copy)]
 pub struct Three;
 
-impl Modular for Three {
+impl Alphabet for Three {
     const Q: u8 = 3;
 
     const B: usize = 6;
+
+    ghost symbols = { three };
 
     ghost Q = { 3 };
 
     ghost B = { 6 };
 
+    ghost order_is = { refl };
+
+    ghost width_is = { refl };
+
     ghost lawful = { three_lawful };
+
+    fn add(x: u8, y: u8) -> u8 {
+        add_modulo(Three::Q, x, y)
+    }
+
+    fn negate(x: u8) -> u8 {
+        negate_modulo(Three::Q, x)
+    }
 }
 
 /// The four symbols of GF(4): 2 is ω and 3 is ω + 1; addition is exclusive or.

@@ -1,7 +1,7 @@
 // Sums, negatives and products, with marks.
 #[cfg(test)]
 mod tests {
-    use alphabets::{Alphabet, Four, Three, Two};
+    use alphabets::{Alphabet, Four, Three, Two, add_modulo, negate_modulo};
 
     #[test]
     fn symbols_add_and_marks_stay_marks(rt: HostRuntime) {
@@ -36,5 +36,13 @@ mod tests {
         assert_eq!(rt; (Two::order(), Two::width()), (2, 8));
         assert_eq!(rt; (Three::order(), Three::width()), (3, 6));
         assert_eq!(rt; (Four::order(), Four::width()), (4, 4));
+    }
+
+    #[test]
+    fn bytes_are_added_modulo_any_order(rt: HostRuntime) {
+        assert_eq!(rt; (add_modulo(7, 5, 6), add_modulo(255, 254, 254)), (4, 253));
+        assert_eq!(rt; (add_modulo(7, 7, 0), add_modulo(0, 0, 0)), (255, 255));
+        assert_eq!(rt; (negate_modulo(7, 2), negate_modulo(7, 0)), (5, 0));
+        assert_eq!(rt; (negate_modulo(7, 7), negate_modulo(0, 0)), (255, 255));
     }
 }

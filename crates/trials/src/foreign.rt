@@ -2,12 +2,13 @@
 ghost use Rattle.std.specs.Prelude.{◌≡◌, ℕ, List, [], ◌∷◌, ◌++◌, map, refl};
 ghost use Rattle.std.specs.List.{range_with_len};
 ghost use Rattle.codes.specs.Refusals.{outcome};
+ghost use Rattle.theory.specs.Alphabets.{plus, minus};
 ghost use Rattle.theory.specs.Calls.{sent, mended, read_back};
 ghost use Rattle.theory.specs.Levels.{digits};
 ghost use Rattle.trials.specs.Powers.{five, powers_checks, powers};
 ghost use Rattle.trials.specs.PowersLemmas.{five_lawful, powers_keeps};
 
-use alphabets::Modular;
+use alphabets::{Alphabet, add_modulo, negate_modulo};
 use codes::code::Code;
 use codes::refusals::Refusal;
 use systematic::{Systematic, mend, read, send};
@@ -16,16 +17,30 @@ use systematic::{Systematic, mend, read, send};
 #[derive(Clone, Copy)]
 struct Five;
 
-impl Modular for Five {
+impl Alphabet for Five {
     const Q: u8 = 5;
 
     const B: usize = 4;
+
+    ghost symbols = { five };
 
     ghost Q = { 5 };
 
     ghost B = { 4 };
 
+    ghost order_is = { refl };
+
+    ghost width_is = { refl };
+
     ghost lawful = { five_lawful };
+
+    fn add(x: u8, y: u8) -> u8 {
+        add_modulo(Five::Q, x, y)
+    }
+
+    fn negate(x: u8) -> u8 {
+        negate_modulo(Five::Q, x)
+    }
 }
 
 const LENGTH: usize = 4;
