@@ -6,7 +6,7 @@ use direct_sum::DirectSum;
 use hamming::Hamming;
 use hexacode::Hexacode;
 use parity::Parity;
-use piles::{FourPile, ReedMuller3, ReedMuller5, four_pile, reed_muller_3, reed_muller_5};
+use piles::{FourPile, ReedMuller3, ReedMuller5, four_pile, reed_muller};
 use plotkin::Plotkin;
 use puncture::Puncture;
 use repetition::Repetition;
@@ -29,11 +29,11 @@ pub fn hexacode_model() -> Result<WithPair<Hexacode>, MakingRefusal> {
 }
 
 pub fn rm3() -> Result<WithPair<ReedMuller3>, MakingRefusal> {
-    Ok(WithPair(reed_muller_3()?))
+    Ok(WithPair(reed_muller::<ReedMuller3>()?))
 }
 
 pub fn mariner() -> Result<WithPair<ReedMuller5>, MakingRefusal> {
-    Ok(WithPair(reed_muller_5()?))
+    Ok(WithPair(reed_muller::<ReedMuller5>()?))
 }
 
 pub fn four_pile_model() -> Result<WithPair<FourPile>, MakingRefusal> {

@@ -50,6 +50,8 @@ impl<U: Code + Drop, V: Code<Symbols = U::Symbols> + Drop> DirectSum<U, V> {
     }
 }
 
+// Each call works out its places in a line for each: a function that answers them would be no plainer, as its contract would
+// have the same lines.
 impl<U: Code + Drop, V: Code<Symbols = U::Symbols> + Drop> Code for DirectSum<U, V> {
     type Symbols = U::Symbols;
 

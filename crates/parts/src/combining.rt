@@ -1,4 +1,5 @@
-// Two words in memory put together place by place: their sum, or the one less the other.
+// Two words in memory put together place by place: their sum, or the one less the other. The numbers of `combine` stay apart,
+// as in the definition that its contract cites: in a struct they would be no plainer.
 ghost use Rattle.std.specs.Prelude.{◌≡◌, ℕ, ◌+◌};
 ghost use Rattle.parts.specs.Combining.{PutsTogether};
 ghost use Rattle.theory.specs.Combining.{readable, combinable, combined};

@@ -1,4 +1,4 @@
-// The pair that a part shows, as the pair of the whole.
+// The pair that a part shows, as the pair of the whole. The numbers stay apart, as in the definition that the contract cites.
 ghost use Rattle.std.specs.Prelude.{◌≡◌, ◌+◌, ◌&&◌, nat_le};
 ghost use Rattle.codes.specs.Refusals.{outcome};
 ghost use Rattle.theory.specs.Padding.{shown_padded};

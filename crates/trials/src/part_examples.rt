@@ -2,30 +2,60 @@
 #[cfg(test)]
 mod tests {
     use crate::number;
+    use alphabets::Three;
     use hamming::Hamming;
     use hexacode::Hexacode;
     use parts::asked::numbers_of;
-    use parts::calls::{mend_part, read_part, send_part};
+    use parts::combining::{combine, subtract};
     use parts::gathering::gather;
+    use parts::part::Part;
     use std::test::Fail;
 
     #[test]
-    fn a_code_works_in_a_middle_part(rt: HostRuntime) {
+    fn a_code_works_in_a_middle_part(rt: HostRuntime) -> Result<(), Fail> {
+        let Ok(part) = Part::new(Hexacode) else {
+            return Err(Fail::new("no part"));
+        };
         let mut memory = [1, 2, 3, 99, 170, 170, 170, 170, 170, 170, 77];
-        assert_eq!(rt; number(send_part(&Hexacode, &mut memory, 0, 3, 4, 6)), 0);
+        assert_eq!(rt; number(part.send(&mut memory, 0, 4)), 0);
         assert_eq!(rt; memory, [1, 2, 3, 99, 1, 2, 3, 0, 3, 0, 77]);
         memory = [1, 2, 3, 255, 255, 0, 170, 170, 170, 170, 77];
-        assert_eq!(rt; number(mend_part(&Hexacode, &mut memory, 0, 6, 4, 6)), 0);
+        assert_eq!(rt; number(part.mend(&mut memory, 0, 4)), 0);
         assert_eq!(rt; memory, [1, 2, 3, 255, 1, 2, 3, 0, 3, 0, 77]);
-        assert_eq!(rt; number(read_part(&Hexacode, &mut memory, 4, 6, 3, 6)), 0);
+        assert_eq!(rt; number(part.read(&mut memory, 4, 3)), 0);
         assert_eq!(rt; memory, [1, 2, 3, 1, 2, 3, 0, 0, 0, 0, 77]);
+        Ok(())
     }
 
     #[test]
-    fn a_part_that_is_not_there_is_short_memory(rt: HostRuntime) {
+    fn a_part_that_is_not_there_is_short_memory(rt: HostRuntime) -> Result<(), Fail> {
+        let Ok(part) = Part::new(Hamming) else {
+            return Err(Fail::new("no part"));
+        };
         let mut memory = [1, 0, 1, 1, 9, 9];
-        assert_eq!(rt; number(send_part(&Hamming, &mut memory, 0, 4, 1, 7)), 1);
+        assert_eq!(rt; number(part.send(&mut memory, 0, 1)), 1);
         assert_eq!(rt; memory, [1, 0, 1, 1, 9, 9]);
+        Ok(())
+    }
+
+    #[test]
+    fn a_word_is_mended_with_its_lost_place(rt: HostRuntime) -> Result<(), Fail> {
+        let Ok(part) = Part::new(Hexacode) else {
+            return Err(Fail::new("no part"));
+        };
+        let mut memory = [1, 2, 0, 3, 0, 9, 170, 170, 170, 170, 170, 170, 77];
+        assert_eq!(rt; number(part.mend_widened(&mut memory, 2, 255)), 0);
+        assert_eq!(rt; memory, [1, 2, 0, 3, 0, 9, 1, 2, 3, 0, 3, 0, 77]);
+        Ok(())
+    }
+
+    #[test]
+    fn a_word_is_taken_from_another(rt: HostRuntime) {
+        let mut memory = [1, 2, 0, 2, 2, 255, 9, 77];
+        combine(&mut memory, 0, 3, 3, 0, |x, y| subtract::<Three>(x, y));
+        assert_eq!(rt; memory, [2, 0, 255, 2, 2, 255, 9, 77]);
+        combine(&mut memory, 0, 3, 6, 0, |x, y| subtract::<Three>(x, y));
+        assert_eq!(rt; memory, [2, 0, 255, 2, 2, 255, 9, 77]);
     }
 
     #[test]
