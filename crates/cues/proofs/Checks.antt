@@ -11,7 +11,7 @@ use Rattle.theory.specs.Calls.{Outcome, accepted, refused}
 use Rattle.theory.specs.Meanings.{Meaning}
 use Rattle.theory.specs.Memory.{over, cleared}
 use Rattle.theory.proofs.Memory.{cleared_there}
-use Rattle.cues.specs.Shapes.{plan_in, FitStore, Enough}
+use Rattle.cues.specs.Shapes.{plan_in, StoreNumbers, Enough}
 use Rattle.cues.specs.declared.shape.Shape.{Shape}
 use Rattle.cues.proofs.Sizes.{cells_are}
 
@@ -35,7 +35,7 @@ module _ {X : Type 0} (by : Option ℕ → X) where
     front_passed h e = passes_on 1 few rest e ∙ passes_on 12 (absent p cue) (refuse 1 few rest) (lt-leb p.cues cue h)
 
 -- what is too short for the numbers kept is too short for the code and the plan
-module _ {fit : Type 0} (A : Arithmetic) (m : Meaning) (shape : Shape) (f : FitStore fit A m shape) where
+module _ (A : Arithmetic) (m : Meaning) (shape : Shape) (f : StoreNumbers A m shape) where
   pub few_is : (cells memory : ℕ) → (ltb cells shape.cells || ltb memory shape.numbers.working) ≡ few_bytes A m (plan_in shape) cells memory
   few_is cells memory = ap₂ (λ (a w : ℕ). ltb cells a || ltb memory w) (cells_are A m shape f) f.numbers.working
 

@@ -16,7 +16,7 @@ use Rattle.theory.specs.Alphabets.{Arithmetic}
 use Rattle.theory.specs.Meanings.{Meaning}
 use Rattle.theory.specs.Memory.{over, part}
 use Rattle.theory.proofs.Overs.{length_part}
-use Rattle.cues.specs.Shapes.{plan_in, FitStore}
+use Rattle.cues.specs.Shapes.{plan_in, StoreNumbers}
 use Rattle.cues.specs.Steps.{symbol_in, message_in}
 use Rattle.cues.specs.declared.shape.Shape.{Shape}
 
@@ -97,7 +97,7 @@ counted_is f xs a k fits h =
     let small : i < k = omega (arith, length-map-range_with_len f 0 k) in
     get_or-map-range_with_len f 0 k i i 0 small (omega arith) ∙ h i small ∙ sym (get_or-take k (drop a xs) i 0 small ∙ get_or-drop a xs i 0))
 
-module _ {fit : Type 0} (A : Arithmetic) (m : Meaning) (shape : Shape) (f : FitStore fit A m shape) (some : 1 ≤ m.k) (levels : List ℕ) (fewer : length levels ≤ shape.levels) where
+module _ (A : Arithmetic) (m : Meaning) (shape : Shape) (f : StoreNumbers A m shape) (some : 1 ≤ m.k) (levels : List ℕ) (fewer : length levels ≤ shape.levels) where
   symbol_is : (j : ℕ) → j < word_count A m (plan_in shape) * m.k → symbol_in shape levels j ≡ get_or (filled_symbols A m (plan_in shape) (all_levels (plan_in shape) levels)) j 0
   symbol_is j inside =
       ap₂ (λ (q b : ℕ). symbol_by q b shape.levels levels j) f.order f.width

@@ -6,10 +6,10 @@ use Rattle.theory.specs.Alphabets.{Arithmetic}
 use Rattle.theory.specs.Meanings.{Meaning}
 use Rattle.theory.specs.Memory.{part}
 use Rattle.theory.proofs.Overs.{length_part}
-use Rattle.cues.specs.Shapes.{plan_in, FitStore}
+use Rattle.cues.specs.Shapes.{plan_in, StoreNumbers}
 use Rattle.cues.specs.declared.shape.Shape.{Shape}
 
-module _ {fit : Type 0} (A : Arithmetic) (m : Meaning) (shape : Shape) (f : FitStore fit A m shape) where
+module _ (A : Arithmetic) (m : Meaning) (shape : Shape) (f : StoreNumbers A m shape) where
   pub block_is : shape.block ≡ cue_cells A m (plan_in shape)
   block_is = shape.of_a_cue ∙ ap₂ (λ (v n : ℕ). v * n) f.words f.numbers.length
 

@@ -20,7 +20,7 @@ use Rattle.theory.proofs.Overs.{length_part, length_over, drop_over_above}
 use Rattle.theory.proofs.Reach.{found_in_reach}
 use Rattle.theory.proofs.Trips.{not_accepted}
 use Rattle.theory.proofs.Words.{same_true, same_self}
-use Rattle.cues.specs.Shapes.{plan_in, FitStore, Enough}
+use Rattle.cues.specs.Shapes.{plan_in, StoreNumbers, Enough}
 use Rattle.cues.specs.Steps.{TouchedOne, mended_copy}
 use Rattle.cues.specs.declared.shape.Shape.{Shape}
 use Rattle.cues.proofs.Sizes.{cells_are, start_is}
@@ -33,7 +33,7 @@ count_more test xs i d h = go (test (get_or xs i d)) refl
     go true e = sym (count_by_more_yes test xs i d h e)
     go false e = omega (arith, count_by_more_no test xs i d h e)
 
-module _ {fit : Type 0} (A : Arithmetic) (laws : Lawful A) (m : Meaning) (keeps : Keeps A m) (shape : Shape) (f : FitStore fit A m shape) (cue : ℕ) (cells memory : List ℕ) (enough : Enough shape cue (length cells) (length memory)) (word : ℕ) (inside : word < shape.words) where
+module _ (A : Arithmetic) (laws : Lawful A) (m : Meaning) (keeps : Keeps A m) (shape : Shape) (f : StoreNumbers A m shape) (cue : ℕ) (cells memory : List ℕ) (enough : Enough shape cue (length cells) (length memory)) (word : ℕ) (inside : word < shape.words) where
   abbrev found : List ℕ
   found = part cells (cell_of_word A m (plan_in shape) cue word) m.n
 
@@ -138,7 +138,7 @@ module _ {fit : Type 0} (A : Arithmetic) (laws : Lawful A) (m : Meaning) (keeps 
             }
 
 -- all words, one after another
-module _ {fit : Type 0} (A : Arithmetic) (laws : Lawful A) (m : Meaning) (keeps : Keeps A m) (shape : Shape) (f : FitStore fit A m shape) (cue : ℕ) (cells : List ℕ) (there : cue < shape.cues) (enough-cells : shape.cells ≤ length cells) where
+module _ (A : Arithmetic) (laws : Lawful A) (m : Meaning) (keeps : Keeps A m) (shape : Shape) (f : StoreNumbers A m shape) (cue : ℕ) (cells : List ℕ) (there : cue < shape.cues) (enough-cells : shape.cells ≤ length cells) where
   all_room : cell_count A m (plan_in shape) ≤ length cells
   all_room = omega (arith, cells_are A m shape f)
 

@@ -25,7 +25,7 @@ use Rattle.theory.proofs.Calls.{paired, read_word}
 use Rattle.theory.proofs.Memory.{drop_settled, take_settled, length_settled}
 use Rattle.theory.proofs.Reach.{found_in_reach}
 use Rattle.theory.proofs.Trips.{not_accepted}
-use Rattle.cues.specs.Shapes.{plan_in, FitStore}
+use Rattle.cues.specs.Shapes.{plan_in, StoreNumbers}
 use Rattle.cues.specs.Steps.{SameBehind, mended_copy, reach_outcome, AllReached, symbols_in, Loaded, ReadWord}
 use Rattle.cues.specs.declared.shape.Shape.{Shape}
 
@@ -71,7 +71,7 @@ some_is : (o : Option (List ℕ)) → not (is_some o) ≡ false → o ≡ Some (
 some_is None e = absurd (let z : ◌≡◌ {A = ℕ} 0 1 = cc in omega arith)
 some_is (Some s) e = refl
 
-module _ {fit : Type 0} (A : Arithmetic) (laws : Lawful A) (m : Meaning) (keeps : Keeps A m) (shape : Shape) (f : FitStore fit A m shape) (cue : ℕ) (cells : List ℕ) where
+module _ (A : Arithmetic) (laws : Lawful A) (m : Meaning) (keeps : Keeps A m) (shape : Shape) (f : StoreNumbers A m shape) (cue : ℕ) (cells : List ℕ) where
   abbrev words : List (List ℕ)
   words = cue_words A m (plan_in shape) cells cue
 

@@ -19,7 +19,7 @@ use Rattle.theory.specs.Words.{Symbols}
 use Rattle.theory.proofs.Calls.{paired, sent_message}
 use Rattle.theory.proofs.Memory.{drop_settled, take_settled, length_settled, copied_there}
 use Rattle.theory.proofs.Overs.{length_over, drop_over_above}
-use Rattle.cues.specs.Shapes.{plan_in, FitStore, Enough}
+use Rattle.cues.specs.Shapes.{plan_in, StoreNumbers, Enough}
 use Rattle.cues.specs.Steps.{message_in, SameBehind}
 use Rattle.cues.specs.declared.shape.Shape.{Shape}
 use Rattle.cues.proofs.Messages.{message_is}
@@ -30,7 +30,7 @@ pub cleared_same : (w w' : ℕ) (xs ys : List ℕ) → w ≡ w' → w' ≤ lengt
 cleared_same w w' xs ys e h s =
     ap (cleared ys 0) e ∙ cleared_front w' ys h ∙ ap (λ (zs : List ℕ). replicate w' 0 ++ zs) s
 
-module _ {fit : Type 0} (A : Arithmetic) (laws : Lawful A) (m : Meaning) (keeps : Keeps A m) (shape : Shape) (f : FitStore fit A m shape) (cue : ℕ) (cells memory : List ℕ) (enough : Enough shape cue (length cells) (length memory)) (levels : List ℕ) (fewer : length levels ≤ shape.levels) where
+module _ (A : Arithmetic) (laws : Lawful A) (m : Meaning) (keeps : Keeps A m) (shape : Shape) (f : StoreNumbers A m shape) (cue : ℕ) (cells memory : List ℕ) (enough : Enough shape cue (length cells) (length memory)) (levels : List ℕ) (fewer : length levels ≤ shape.levels) where
   all : length (all_levels (plan_in shape) levels) ≡ shape.levels
   all = all_levels_length (plan_in shape) levels fewer
 

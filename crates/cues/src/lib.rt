@@ -13,7 +13,6 @@ pub mod symbols;
 pub mod touching;
 pub mod writing;
 
-pub use plotting_store::{Plotting, Slip};
+pub use plotting_store::Slip;
 pub use refusals::StoreRefusal;
-pub use running_store::Running;
-pub use store::Touched;
+pub use store::{Plotting, Running, Store, Touched, WhilePlotting, WhileRunning};

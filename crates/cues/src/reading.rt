@@ -1,7 +1,7 @@
 // Recalling: the words of a cue are mended in the working memory and read there symbol by symbol.
 ghost use Rattle.std.specs.Prelude.{◌≡◌, ◌+◌, ◌*◌, ◌<◌, ◌≤◌, min, length, Ok};
 ghost use Rattle.cues.specs.Refusals.{store_outcome};
-ghost use Rattle.cues.specs.Shapes.{plan_in, state_in, FitStore, Enough};
+ghost use Rattle.cues.specs.Shapes.{plan_in, state_in, Enough};
 ghost use Rattle.cues.specs.Steps.{mended_copy, ReachedAll, AllReached, ReadWord, ReadSymbol, ReadLevel, ShownLevels, CheckedFilling, ReadLevels, Loaded};
 ghost use Rattle.store_theory.specs.Calls.{recalled_cue};
 ghost use Rattle.store_theory.specs.Layout.{cell_of_word, symbol_count};
@@ -15,7 +15,7 @@ use crate::symbols::carried;
 use codes::code::Code;
 use codes::memory::{clear, copy_between};
 
-impl<C: Code + Drop> Store<C> {
+impl<C: Code + Drop, S> Store<C, S> {
     /// Copies a word into the working memory and mends it there.
     fn mend_word(
         &self,
@@ -25,7 +25,7 @@ impl<C: Code + Drop> Store<C> {
         memory: &mut [u8],
     ) -> Result<(), StoreRefusal>
         requires { (Enough self.now.shape cue (length cells.now) (length memory.old)) × (word < self.now.shape.words) }
-        ensures { FitStore (C.Code.fit self.now.code) C.Symbols.Alphabet.symbols (C.Code.meaning self.now.code) self.now.shape → (store_outcome result, memory.new) ≡ mended_copy C.Symbols.Alphabet.symbols (C.Code.meaning self.now.code) (plan_in self.now.shape) cue word (part cells.now (cell_of_word C.Symbols.Alphabet.symbols (C.Code.meaning self.now.code) (plan_in self.now.shape) cue word) (C.Code.meaning self.now.code).n) memory.old (message_in_reach C.Symbols.Alphabet.symbols (C.Code.meaning self.now.code) (part cells.now (cell_of_word C.Symbols.Alphabet.symbols (C.Code.meaning self.now.code) (plan_in self.now.shape) cue word) (C.Code.meaning self.now.code).n)) }
+        ensures { C.Code.fit self.now.code → (store_outcome result, memory.new) ≡ mended_copy C.Symbols.Alphabet.symbols (C.Code.meaning self.now.code) (plan_in self.now.shape) cue word (part cells.now (cell_of_word C.Symbols.Alphabet.symbols (C.Code.meaning self.now.code) (plan_in self.now.shape) cue word) (C.Code.meaning self.now.code).n) memory.old (message_in_reach C.Symbols.Alphabet.symbols (C.Code.meaning self.now.code) (part cells.now (cell_of_word C.Symbols.Alphabet.symbols (C.Code.meaning self.now.code) (plan_in self.now.shape) cue word) (C.Code.meaning self.now.code).n)) }
     {
         let start = self.shape.word_start(cue, word);
         copy_between(memory, 0, cells, start, self.shape.numbers.length);
@@ -38,7 +38,7 @@ impl<C: Code + Drop> Store<C> {
     /// Goes over all words of the cue for the first beyond reach.
     fn mend_words(&self, cue: usize, cells: &[u8], memory: &mut [u8]) -> Result<(), StoreRefusal>
         requires { Enough self.now.shape cue (length cells.now) (length memory.old) }
-        ensures { FitStore (C.Code.fit self.now.code) C.Symbols.Alphabet.symbols (C.Code.meaning self.now.code) self.now.shape → ReachedAll C.Symbols.Alphabet.symbols (C.Code.meaning self.now.code) (plan_in self.now.shape) cue cells.now memory.old (store_outcome result) memory.new }
+        ensures { C.Code.fit self.now.code → ReachedAll C.Symbols.Alphabet.symbols (C.Code.meaning self.now.code) (plan_in self.now.shape) cue cells.now memory.old (store_outcome result) memory.new }
     {
         for word in 0..self.shape.words {
             self.mend_word(cue, word, cells, memory)?;
@@ -55,7 +55,7 @@ impl<C: Code + Drop> Store<C> {
         memory: &mut [u8],
     ) -> Result<(), StoreRefusal>
         requires { (Enough self.now.shape cue (length cells.now) (length memory.old)) × (word < self.now.shape.words) }
-        ensures { FitStore (C.Code.fit self.now.code) C.Symbols.Alphabet.symbols (C.Code.meaning self.now.code) self.now.shape → AllReached C.Symbols.Alphabet.symbols (C.Code.meaning self.now.code) (plan_in self.now.shape) cue cells.now → ReadWord C.Symbols.Alphabet.symbols (C.Code.meaning self.now.code) (plan_in self.now.shape) cue word cells.now memory.old (store_outcome result) memory.new }
+        ensures { C.Code.fit self.now.code → AllReached C.Symbols.Alphabet.symbols (C.Code.meaning self.now.code) (plan_in self.now.shape) cue cells.now → ReadWord C.Symbols.Alphabet.symbols (C.Code.meaning self.now.code) (plan_in self.now.shape) cue word cells.now memory.old (store_outcome result) memory.new }
     {
         self.mend_word(cue, word, cells, memory)?;
         match self.code.read(memory) {
@@ -73,7 +73,7 @@ impl<C: Code + Drop> Store<C> {
         memory: &mut [u8],
     ) -> Result<u8, StoreRefusal>
         requires { (Enough self.now.shape cue (length cells.now) (length memory.old)) × (place < self.now.shape.words * self.now.shape.numbers.dimension) }
-        ensures { FitStore (C.Code.fit self.now.code) C.Symbols.Alphabet.symbols (C.Code.meaning self.now.code) self.now.shape → AllReached C.Symbols.Alphabet.symbols (C.Code.meaning self.now.code) (plan_in self.now.shape) cue cells.now → Loaded C.Symbols.Alphabet.symbols (C.Code.meaning self.now.code) (plan_in self.now.shape) cue cells.now place memory.old → ReadSymbol C.Symbols.Alphabet.symbols (C.Code.meaning self.now.code) (plan_in self.now.shape) cue place cells.now memory.old result memory.new }
+        ensures { C.Code.fit self.now.code → AllReached C.Symbols.Alphabet.symbols (C.Code.meaning self.now.code) (plan_in self.now.shape) cue cells.now → Loaded C.Symbols.Alphabet.symbols (C.Code.meaning self.now.code) (plan_in self.now.shape) cue cells.now place memory.old → ReadSymbol C.Symbols.Alphabet.symbols (C.Code.meaning self.now.code) (plan_in self.now.shape) cue place cells.now memory.old result memory.new }
     {
         let dimension = self.shape.numbers.dimension;
         if place % dimension == 0 {
@@ -91,7 +91,7 @@ impl<C: Code + Drop> Store<C> {
         memory: &mut [u8],
     ) -> Result<usize, StoreRefusal>
         requires { (Enough self.now.shape cue (length cells.now) (length memory.old)) × (level < self.now.shape.levels) }
-        ensures { FitStore (C.Code.fit self.now.code) C.Symbols.Alphabet.symbols (C.Code.meaning self.now.code) self.now.shape → AllReached C.Symbols.Alphabet.symbols (C.Code.meaning self.now.code) (plan_in self.now.shape) cue cells.now → Loaded C.Symbols.Alphabet.symbols (C.Code.meaning self.now.code) (plan_in self.now.shape) cue cells.now (level * C.Symbols.Alphabet.symbols.b) memory.old → ReadLevel C.Symbols.Alphabet.symbols (C.Code.meaning self.now.code) (plan_in self.now.shape) cue level cells.now memory.old result memory.new }
+        ensures { C.Code.fit self.now.code → AllReached C.Symbols.Alphabet.symbols (C.Code.meaning self.now.code) (plan_in self.now.shape) cue cells.now → Loaded C.Symbols.Alphabet.symbols (C.Code.meaning self.now.code) (plan_in self.now.shape) cue cells.now (level * C.Symbols.Alphabet.symbols.b) memory.old → ReadLevel C.Symbols.Alphabet.symbols (C.Code.meaning self.now.code) (plan_in self.now.shape) cue level cells.now memory.old result memory.new }
     {
         let start = level * self.shape.width;
         let mut number = 0;
@@ -111,7 +111,7 @@ impl<C: Code + Drop> Store<C> {
         memory: &mut [u8],
     ) -> Result<(), StoreRefusal>
         requires { (Enough self.now.shape cue (length cells.now) (length memory.old)) × (self.now.shape.levels ≤ length levels.old) }
-        ensures { FitStore (C.Code.fit self.now.code) C.Symbols.Alphabet.symbols (C.Code.meaning self.now.code) self.now.shape → AllReached C.Symbols.Alphabet.symbols (C.Code.meaning self.now.code) (plan_in self.now.shape) cue cells.now → ShownLevels C.Symbols.Alphabet.symbols (C.Code.meaning self.now.code) (plan_in self.now.shape) cue cells.now levels.old memory.old (store_outcome result) levels.new memory.new }
+        ensures { C.Code.fit self.now.code → AllReached C.Symbols.Alphabet.symbols (C.Code.meaning self.now.code) (plan_in self.now.shape) cue cells.now → ShownLevels C.Symbols.Alphabet.symbols (C.Code.meaning self.now.code) (plan_in self.now.shape) cue cells.now levels.old memory.old (store_outcome result) levels.new memory.new }
     {
         for level in 0..self.shape.levels {
             let number = self.next_level(cue, level, cells, memory)?;
@@ -126,7 +126,7 @@ impl<C: Code + Drop> Store<C> {
     /// Goes over the symbols behind the last level for one that is not 0.
     fn check_filling(&self, cue: usize, cells: &[u8], memory: &mut [u8]) -> Result<(), StoreRefusal>
         requires { Enough self.now.shape cue (length cells.now) (length memory.old) }
-        ensures { FitStore (C.Code.fit self.now.code) C.Symbols.Alphabet.symbols (C.Code.meaning self.now.code) self.now.shape → AllReached C.Symbols.Alphabet.symbols (C.Code.meaning self.now.code) (plan_in self.now.shape) cue cells.now → Loaded C.Symbols.Alphabet.symbols (C.Code.meaning self.now.code) (plan_in self.now.shape) cue cells.now (symbol_count C.Symbols.Alphabet.symbols (plan_in self.now.shape)) memory.old → CheckedFilling C.Symbols.Alphabet.symbols (C.Code.meaning self.now.code) (plan_in self.now.shape) cue cells.now memory.old (store_outcome result) memory.new }
+        ensures { C.Code.fit self.now.code → AllReached C.Symbols.Alphabet.symbols (C.Code.meaning self.now.code) (plan_in self.now.shape) cue cells.now → Loaded C.Symbols.Alphabet.symbols (C.Code.meaning self.now.code) (plan_in self.now.shape) cue cells.now (symbol_count C.Symbols.Alphabet.symbols (plan_in self.now.shape)) memory.old → CheckedFilling C.Symbols.Alphabet.symbols (C.Code.meaning self.now.code) (plan_in self.now.shape) cue cells.now memory.old (store_outcome result) memory.new }
     {
         let end = self.shape.words * self.shape.numbers.dimension;
         for place in self.shape.levels * self.shape.width..end {
@@ -147,23 +147,23 @@ impl<C: Code + Drop> Store<C> {
         memory: &mut [u8],
     ) -> Result<(), StoreRefusal>
         requires { (Enough self.now.shape cue (length cells.now) (length memory.old)) × (self.now.shape.levels ≤ length levels.old) }
-        ensures { FitStore (C.Code.fit self.now.code) C.Symbols.Alphabet.symbols (C.Code.meaning self.now.code) self.now.shape → ReadLevels C.Symbols.Alphabet.symbols (C.Code.meaning self.now.code) (plan_in self.now.shape) cue cells.now levels.old memory.old (store_outcome result) levels.new memory.new }
+        ensures { C.Code.fit self.now.code → ReadLevels C.Symbols.Alphabet.symbols (C.Code.meaning self.now.code) (plan_in self.now.shape) cue cells.now levels.old memory.old (store_outcome result) levels.new memory.new }
     {
         self.mend_words(cue, cells, memory)?;
         self.show_levels(cue, cells, levels, memory)?;
         self.check_filling(cue, cells, memory)
     }
 
-    /// Recalls the cue. Levels that came before a fault are zeroed again.
-    pub(crate) fn recall(
+    /// Reads the levels of the cue out of mended copies of its words. A refusal for a word or a level leaves zeros.
+    pub fn recall(
         &self,
         cue: usize,
         cells: &[u8],
         levels: &mut [u8],
         memory: &mut [u8],
     ) -> Result<(), StoreRefusal>
-        ensures answer { FitStore (C.Code.fit self.now.code) C.Symbols.Alphabet.symbols (C.Code.meaning self.now.code) self.now.shape → (store_outcome result, state_in self.now.kept, cells.now, levels.new, memory.new) ≡ recalled_cue C.Symbols.Alphabet.symbols (C.Code.meaning self.now.code) (plan_in self.now.shape) cue (state_in self.now.kept) cells.now levels.old memory.old }
-        ensures recall_gives_what_was_last_recorded { FitStore (C.Code.fit self.now.code) C.Symbols.Alphabet.symbols (C.Code.meaning self.now.code) self.now.shape → LastRecorded C.Symbols.Alphabet.symbols (C.Code.meaning self.now.code) (plan_in self.now.shape) cue (state_in self.now.kept) cells.now levels.old memory.old (store_outcome result, state_in self.now.kept, cells.now, levels.new, memory.new) }
+        ensures answer { C.Code.fit self.now.code → (store_outcome result, state_in self.now.kept, cells.now, levels.new, memory.new) ≡ recalled_cue C.Symbols.Alphabet.symbols (C.Code.meaning self.now.code) (plan_in self.now.shape) cue (state_in self.now.kept) cells.now levels.old memory.old }
+        ensures recall_gives_what_was_last_recorded { C.Code.fit self.now.code → LastRecorded C.Symbols.Alphabet.symbols (C.Code.meaning self.now.code) (plan_in self.now.shape) cue (state_in self.now.kept) cells.now levels.old memory.old (store_outcome result, state_in self.now.kept, cells.now, levels.new, memory.new) }
     {
         if cue >= self.shape.cues {
             return Err(StoreRefusal::NoSuchCue);

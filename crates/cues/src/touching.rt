@@ -1,8 +1,9 @@
 // Touching up: each word of a cue is mended in the working memory, and copied back if that changed it.
 ghost use Rattle.std.specs.Prelude.{◌≡◌, ◌+◌, ◌<◌, ◌≤◌, min, length};
 ghost use Rattle.cues.specs.Refusals.{touch_outcome};
-ghost use Rattle.cues.specs.Shapes.{plan_in, state_in, FitStore, SameStore, Enough};
+ghost use Rattle.cues.specs.Shapes.{plan_in, state_in, Enough};
 ghost use Rattle.cues.specs.Steps.{TouchedOne, TouchedAll};
+ghost use Rattle.cues.specs.Stores.{SameStore};
 ghost use Rattle.store_theory.specs.Calls.{touched_up_cue};
 
 use crate::refusals::StoreRefusal;
@@ -25,12 +26,12 @@ pub(crate) fn tally_with(tally: u16, more: usize) -> u16
     }
 }
 
-impl<C: Code + Drop> Store<C> {
+impl<C: Code + Drop, S> Store<C, S> {
     /// Mends one word in its cells; one beyond reach stays.
     fn touch_word(&self, cue: usize, word: usize, cells: &mut [u8], memory: &mut [u8]) -> Touched
         requires { (Enough self.now.shape cue (length cells.old) (length memory.old)) × (word < self.now.shape.words) }
         ensures small { (result.changed ≤ 1) × (result.beyond_reach ≤ 1) }
-        ensures answer { FitStore (C.Code.fit self.now.code) C.Symbols.Alphabet.symbols (C.Code.meaning self.now.code) self.now.shape → TouchedOne C.Symbols.Alphabet.symbols (C.Code.meaning self.now.code) (plan_in self.now.shape) cue word cells.old memory.old result.changed result.beyond_reach cells.new memory.new }
+        ensures answer { C.Code.fit self.now.code → TouchedOne C.Symbols.Alphabet.symbols (C.Code.meaning self.now.code) (plan_in self.now.shape) cue word cells.old memory.old result.changed result.beyond_reach cells.new memory.new }
     {
         let length = self.shape.numbers.length;
         let start = self.shape.word_start(cue, word);
@@ -52,7 +53,7 @@ impl<C: Code + Drop> Store<C> {
     /// Mends all words of the cue in their cells, and clears the working memory.
     pub(crate) fn touch_words(&self, cue: usize, cells: &mut [u8], memory: &mut [u8]) -> Touched
         requires { Enough self.now.shape cue (length cells.old) (length memory.old) }
-        ensures { FitStore (C.Code.fit self.now.code) C.Symbols.Alphabet.symbols (C.Code.meaning self.now.code) self.now.shape → TouchedAll C.Symbols.Alphabet.symbols (C.Code.meaning self.now.code) (plan_in self.now.shape) cue cells.old memory.old result.changed result.beyond_reach cells.new memory.new }
+        ensures { C.Code.fit self.now.code → TouchedAll C.Symbols.Alphabet.symbols (C.Code.meaning self.now.code) (plan_in self.now.shape) cue cells.old memory.old result.changed result.beyond_reach cells.new memory.new }
     {
         let mut changed = 0;
         let mut beyond_reach = 0;
@@ -68,14 +69,15 @@ impl<C: Code + Drop> Store<C> {
         }
     }
 
-    /// Touches the cue up and adds the changed words to the tally.
-    pub(crate) fn touch_up(
+    /// Mends each word of the cue in its cells (scrubbing); one beyond reach stays. Answers how many words changed and how
+    /// many are beyond reach; the tally grows by the changed ones.
+    pub fn touch_up(
         &mut self,
         cue: usize,
         cells: &mut [u8],
         memory: &mut [u8],
     ) -> Result<Touched, StoreRefusal>
-        ensures answer { FitStore (C.Code.fit self.old.code) C.Symbols.Alphabet.symbols (C.Code.meaning self.old.code) self.old.shape → (touch_outcome result, state_in self.new.kept, cells.new, memory.new) ≡ touched_up_cue C.Symbols.Alphabet.symbols (C.Code.meaning self.old.code) (plan_in self.old.shape) cue (state_in self.old.kept) cells.old memory.old }
+        ensures answer { C.Code.fit self.old.code → (touch_outcome result, state_in self.new.kept, cells.new, memory.new) ≡ touched_up_cue C.Symbols.Alphabet.symbols (C.Code.meaning self.old.code) (plan_in self.old.shape) cue (state_in self.old.kept) cells.old memory.old }
         ensures same { SameStore self.old self.new }
     {
         if cue >= self.shape.cues {

@@ -1,5 +1,6 @@
-use Rattle.std.proofs.Common.{sym, refl, arith}
+use Rattle.std.proofs.Common.{sym, refl, ap, arith}
 use Rattle.std.proofs.lemmas.Bool.Decides.{nat_tests}
+use Rattle.store_theory.specs.Calls.{outcome_of}
 use Rattle.store_theory.specs.Checks.{making_check}
 use Rattle.cues.proofs.Makings.{width_some, width_narrow, few_level_symbols, few_words, few_cue_cells, few_cells_lem, enough_words_lem, words_are, too_many_cells, making_accepted}
 use Rattle.cues.proofs.making.shape_of.Goals as goal
@@ -60,9 +61,8 @@ pub returns : goal.returns
 returns g c =
     let accepts = λ (fit : g.C.Code.fit c.args.code.now). making_accepted g.C.Symbols.Alphabet.symbols (g.C.Code.meaning c.args.code.now) c.args.cues c.args.levels c.width-width.result c.in-Some.numbers (c.in-Some.ensures fit) c.width-width.ensures (omega arith) (omega arith) (omega arith) (omega arith) c.if-cells-gt-MOST_CELLS.false in
     record {
-      making = λ fit. sym (accepts fit);
+      making = λ fit. sym (ap outcome_of (accepts fit));
       fits = λ fit. record {
-        code = fit;
         order = c.order-order.ensures;
         width = c.width-width.ensures;
         numbers = c.in-Some.ensures fit;

@@ -19,7 +19,7 @@ returns-then-is_err g c =
     let m = g.C.Code.meaning code in
     record {
       small = (omega arith, omega arith);
-      answer = λ f. touched_beyond A laws m (g.met.C.Code.keeps code f.code) shape f c.args.cue c.args.cells.now c.args.memory.now c.requires.0 c.args.word c.requires.1 c.copy_between.new.memory c.mend.new.memory (outcome c.mend.result) (c.copy_between.ensures ∙ ap (λ (a : ℕ). copied c.args.memory.now 0 c.args.cells.now a shape.numbers.length) c.word_start-start.ensures) (c.mend.ensures f.code) (err_refuses c.mend.result (sym c.is_err.ensures.value ∙ c.if-is_err.true));
+      answer = λ h. touched_beyond A laws m (g.met.C.Code.keeps code h) shape (c.args.self.now.fits h) c.args.cue c.args.cells.now c.args.memory.now c.requires.0 c.args.word c.requires.1 c.copy_between.new.memory c.mend.new.memory (outcome c.mend.result) (c.copy_between.ensures ∙ ap (λ (a : ℕ). copied c.args.memory.now 0 c.args.cells.now a shape.numbers.length) c.word_start-start.ensures) (c.mend.ensures h) (err_refuses c.mend.result (sym c.is_err.ensures.value ∙ c.if-is_err.true));
     }
 
 pub slice_bounds-eq-end-2 : goal.slice_bounds-eq-end-2
@@ -36,8 +36,8 @@ returns-then-same g c =
     let m = g.C.Code.meaning code in
     record {
       small = (omega arith, omega arith);
-      answer = λ f. subst (λ (b : Bool). TouchedOne A m (plan_in shape) c.args.cue c.args.word c.args.cells.now c.args.memory.now (cond b 0 1) 0 c.copy_between-2.new.memory c.mend.new.memory) c.if-same.true
-          (touched_mended A laws m (g.met.C.Code.keeps code f.code) shape f c.args.cue c.args.cells.now c.args.memory.now c.requires.0 c.args.word c.requires.1 c.copy_between.new.memory c.mend.new.memory (outcome c.mend.result) (c.copy_between.ensures ∙ ap (λ (a : ℕ). copied c.args.memory.now 0 c.args.cells.now a shape.numbers.length) c.word_start-start.ensures) (c.mend.ensures f.code) (ok_accepts c.mend.result (sym c.is_err.ensures.value ∙ c.if-is_err.false)) c.eq-same.result (compared A m shape f c.args.cue c.args.word c.word_start-start.result c.word_start-start.ensures c.mend.new.memory c.args.cells.now c.eq-same.result (slice_eq-Decides Decides-eqb _ _ _ c.eq-same.ensures)) c.copy_between-2.new.memory (c.copy_between-2.ensures ∙ ap (λ (a : ℕ). copied c.args.cells.now a c.mend.new.memory 0 shape.numbers.length) c.word_start-start.ensures));
+      answer = λ h. subst (λ (b : Bool). TouchedOne A m (plan_in shape) c.args.cue c.args.word c.args.cells.now c.args.memory.now (cond b 0 1) 0 c.copy_between-2.new.memory c.mend.new.memory) c.if-same.true
+          (touched_mended A laws m (g.met.C.Code.keeps code h) shape (c.args.self.now.fits h) c.args.cue c.args.cells.now c.args.memory.now c.requires.0 c.args.word c.requires.1 c.copy_between.new.memory c.mend.new.memory (outcome c.mend.result) (c.copy_between.ensures ∙ ap (λ (a : ℕ). copied c.args.memory.now 0 c.args.cells.now a shape.numbers.length) c.word_start-start.ensures) (c.mend.ensures h) (ok_accepts c.mend.result (sym c.is_err.ensures.value ∙ c.if-is_err.false)) c.eq-same.result (compared A m shape (c.args.self.now.fits h) c.args.cue c.args.word c.word_start-start.result c.word_start-start.ensures c.mend.new.memory c.args.cells.now c.eq-same.result (slice_eq-Decides Decides-eqb _ _ _ c.eq-same.ensures)) c.copy_between-2.new.memory (c.copy_between-2.ensures ∙ ap (λ (a : ℕ). copied c.args.cells.now a c.mend.new.memory 0 shape.numbers.length) c.word_start-start.ensures));
     }
 
 pub returns-else-same : goal.returns-else-same
@@ -49,6 +49,6 @@ returns-else-same g c =
     let m = g.C.Code.meaning code in
     record {
       small = (omega arith, omega arith);
-      answer = λ f. subst (λ (b : Bool). TouchedOne A m (plan_in shape) c.args.cue c.args.word c.args.cells.now c.args.memory.now (cond b 0 1) 0 c.copy_between-2.new.memory c.mend.new.memory) c.if-same.false
-          (touched_mended A laws m (g.met.C.Code.keeps code f.code) shape f c.args.cue c.args.cells.now c.args.memory.now c.requires.0 c.args.word c.requires.1 c.copy_between.new.memory c.mend.new.memory (outcome c.mend.result) (c.copy_between.ensures ∙ ap (λ (a : ℕ). copied c.args.memory.now 0 c.args.cells.now a shape.numbers.length) c.word_start-start.ensures) (c.mend.ensures f.code) (ok_accepts c.mend.result (sym c.is_err.ensures.value ∙ c.if-is_err.false)) c.eq-same.result (compared A m shape f c.args.cue c.args.word c.word_start-start.result c.word_start-start.ensures c.mend.new.memory c.args.cells.now c.eq-same.result (slice_eq-Decides Decides-eqb _ _ _ c.eq-same.ensures)) c.copy_between-2.new.memory (c.copy_between-2.ensures ∙ ap (λ (a : ℕ). copied c.args.cells.now a c.mend.new.memory 0 shape.numbers.length) c.word_start-start.ensures));
+      answer = λ h. subst (λ (b : Bool). TouchedOne A m (plan_in shape) c.args.cue c.args.word c.args.cells.now c.args.memory.now (cond b 0 1) 0 c.copy_between-2.new.memory c.mend.new.memory) c.if-same.false
+          (touched_mended A laws m (g.met.C.Code.keeps code h) shape (c.args.self.now.fits h) c.args.cue c.args.cells.now c.args.memory.now c.requires.0 c.args.word c.requires.1 c.copy_between.new.memory c.mend.new.memory (outcome c.mend.result) (c.copy_between.ensures ∙ ap (λ (a : ℕ). copied c.args.memory.now 0 c.args.cells.now a shape.numbers.length) c.word_start-start.ensures) (c.mend.ensures h) (ok_accepts c.mend.result (sym c.is_err.ensures.value ∙ c.if-is_err.false)) c.eq-same.result (compared A m shape (c.args.self.now.fits h) c.args.cue c.args.word c.word_start-start.result c.word_start-start.ensures c.mend.new.memory c.args.cells.now c.eq-same.result (slice_eq-Decides Decides-eqb _ _ _ c.eq-same.ensures)) c.copy_between-2.new.memory (c.copy_between-2.ensures ∙ ap (λ (a : ℕ). copied c.args.cells.now a c.mend.new.memory 0 shape.numbers.length) c.word_start-start.ensures));
     }

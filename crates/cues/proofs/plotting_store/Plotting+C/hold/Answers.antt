@@ -2,7 +2,7 @@ use Rattle.std.proofs.Common.{refl, arith}
 use Rattle.std.proofs.lemmas.Bool.Decides.{nat_tests}
 use Rattle.store_theory.specs.Calls.{held_cue}
 use Rattle.store_theory.specs.Checks.{hold_check}
-use Rattle.cues.proofs.plotting_store.Plotting.hold.Goals as goal
+use Rattle.cues.proofs.plotting_store.Plotting+C.hold.Goals as goal
 
 pub returns-then-cue-self : goal.returns-then-cue-self
 unfolding held_cue hold_check
