@@ -6,6 +6,7 @@ pub mod making;
 pub mod plotting_store;
 pub mod reading;
 pub mod refusals;
+pub mod refusing;
 pub mod running_store;
 pub mod shape;
 pub mod store;

@@ -2,7 +2,7 @@
 ghost use Rattle.std.specs.Prelude.{◌≡◌, IfOk};
 ghost use Rattle.cues.specs.Refusals.{store_outcome};
 ghost use Rattle.cues.specs.Shapes.{plan_in, state_in};
-ghost use Rattle.cues.specs.Stores.{SameStore};
+ghost use Rattle.cues.specs.Stores.{of_store, SameStore};
 ghost use Rattle.store_theory.specs.Calls.{store_making, recorded_cue, recorded_cue_by_slip, held_cue, let_go_cue, wiped_cue};
 ghost use Rattle.store_theory.specs.Layout.{plan_of};
 ghost use Rattle.store_theory.specs.States.{new_state};
@@ -43,24 +43,15 @@ impl<C: Code + Drop> Plotting<C> {
         cells: &mut [u8],
         memory: &mut [u8],
     ) -> Result<(), StoreRefusal>
-        ensures answer { C.Code.fit self.old.code → (store_outcome result, state_in self.new.kept, cells.new, levels.now, memory.new) ≡ recorded_cue C.Symbols.Alphabet.symbols (C.Code.meaning self.old.code) (plan_in self.old.shape) cue (state_in self.old.kept) cells.old levels.now memory.old }
+        ensures answer { C.Code.fit self.old.code → (store_outcome result, state_in self.new.kept, cells.new, levels.now, memory.new) ≡ of_store self.old recorded_cue cue (state_in self.old.kept) cells.old levels.now memory.old }
         ensures same { SameStore self.old self.new }
     {
-        if cue >= self.shape.cues {
-            return Err(StoreRefusal::NoSuchCue);
-        }
-        if self.shape.is_short(cells.len(), memory.len()) {
-            return Err(StoreRefusal::ShortMemory);
-        }
-        if levels.len() > self.shape.levels {
-            return Err(StoreRefusal::TooManyLevels);
-        }
+        self.shape
+            .check_recording(cue, levels.len(), cells.len(), memory.len())?;
         if self.kept.marks[cue].held {
             return Err(StoreRefusal::Held);
         }
-        self.write_words(cue, levels, cells, memory)?;
-        self.kept.marks[cue].recorded = true;
-        Ok(())
+        self.write_cue(cue, levels, cells, memory)
     }
 
     /// Records these levels in the cue of this slip, which stays held.
@@ -71,25 +62,15 @@ impl<C: Code + Drop> Plotting<C> {
         cells: &mut [u8],
         memory: &mut [u8],
     ) -> Result<(), StoreRefusal>
-        ensures answer { C.Code.fit self.old.code → (store_outcome result, state_in self.new.kept, cells.new, levels.now, memory.new) ≡ recorded_cue_by_slip C.Symbols.Alphabet.symbols (C.Code.meaning self.old.code) (plan_in self.old.shape) slip.now.cue (state_in self.old.kept) cells.old levels.now memory.old }
+        ensures answer { C.Code.fit self.old.code → (store_outcome result, state_in self.new.kept, cells.new, levels.now, memory.new) ≡ of_store self.old recorded_cue_by_slip slip.now.cue (state_in self.old.kept) cells.old levels.now memory.old }
         ensures same { SameStore self.old self.new }
     {
-        let cue = slip.cue;
-        if cue >= self.shape.cues {
-            return Err(StoreRefusal::NoSuchCue);
-        }
-        if self.shape.is_short(cells.len(), memory.len()) {
-            return Err(StoreRefusal::ShortMemory);
-        }
-        if levels.len() > self.shape.levels {
-            return Err(StoreRefusal::TooManyLevels);
-        }
-        if !self.kept.marks[cue].held {
+        self.shape
+            .check_recording(slip.cue, levels.len(), cells.len(), memory.len())?;
+        if !self.kept.marks[slip.cue].held {
             return Err(StoreRefusal::NotHeld);
         }
-        self.write_words(cue, levels, cells, memory)?;
-        self.kept.marks[cue].recorded = true;
-        Ok(())
+        self.write_cue(slip.cue, levels, cells, memory)
     }
 
     /// Holds the cue: only this slip records it until it is let go.
@@ -121,7 +102,7 @@ impl<C: Code + Drop> Plotting<C> {
 
     /// Zeroes the cells of the cue, which is then empty.
     pub fn wipe(&mut self, cue: usize, cells: &mut [u8]) -> Result<(), StoreRefusal>
-        ensures answer { C.Code.fit self.old.code → (store_outcome result, state_in self.new.kept, cells.new) ≡ wiped_cue C.Symbols.Alphabet.symbols (C.Code.meaning self.old.code) (plan_in self.old.shape) cue (state_in self.old.kept) cells.old }
+        ensures answer { C.Code.fit self.old.code → (store_outcome result, state_in self.new.kept, cells.new) ≡ of_store self.old wiped_cue cue (state_in self.old.kept) cells.old }
         ensures same { SameStore self.old self.new }
     {
         if cue >= self.shape.cues {

@@ -41,6 +41,8 @@ pub type Plotting<C> = Store<C, WhilePlotting>;
 pub type Running<C> = Store<C, WhileRunning>;
 
 impl<C: Code + Drop, S> Store<C, S> {
+    ghost use Rattle.cues.specs.Stores.{of_store};
+
     /// How many words touching up has changed so far; it stays at 65,535.
     pub fn tally(&self) -> u16
         ensures { result ≡ (state_in self.now.kept).tally }
@@ -51,7 +53,7 @@ impl<C: Code + Drop, S> Store<C, S> {
     /// How many words a cue has.
     pub fn words(&self) -> usize
         ensures number { result ≡ self.now.shape.words }
-        ensures answer { C.Code.fit self.now.code → result ≡ word_count C.Symbols.Alphabet.symbols (C.Code.meaning self.now.code) (plan_in self.now.shape) }
+        ensures answer { C.Code.fit self.now.code → result ≡ of_store self.now word_count }
     {
         self.shape.words
     }
@@ -59,7 +61,7 @@ impl<C: Code + Drop, S> Store<C, S> {
     /// How many cells all cues have together.
     pub fn cells(&self) -> usize
         ensures number { result ≡ self.now.shape.cells }
-        ensures answer { C.Code.fit self.now.code → result ≡ cell_count C.Symbols.Alphabet.symbols (C.Code.meaning self.now.code) (plan_in self.now.shape) }
+        ensures answer { C.Code.fit self.now.code → result ≡ of_store self.now cell_count }
     {
         self.shape.cells
     }

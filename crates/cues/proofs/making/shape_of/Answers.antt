@@ -5,9 +5,9 @@ use Rattle.store_theory.specs.Checks.{making_check}
 use Rattle.cues.proofs.Makings.{width_some, width_narrow, few_level_symbols, few_words, few_cue_cells, few_cells_lem, enough_words_lem, words_are, too_many_cells, making_accepted}
 use Rattle.cues.proofs.making.shape_of.Goals as goal
 
-pub returns-then-cues-lt1 : goal.returns-then-cues-lt1
+pub returns-then-cues-lt1-clause-making : goal.returns-then-cues-lt1-clause-making
 unfolding making_check
-returns-then-cues-lt1 g c = record { making = λ fit. grind (arith, nat_tests); fits = λ fit. tt; plan = tt }
+returns-then-cues-lt1-clause-making g c fit = grind (arith, nat_tests)
 
 pub overflow_mul-words : goal.overflow_mul-words
 overflow_mul-words g c =

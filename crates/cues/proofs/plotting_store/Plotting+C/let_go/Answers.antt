@@ -1,14 +1,12 @@
-use Rattle.std.proofs.Common.{refl}
-use Rattle.std.proofs.lemmas.Bool.{cond_below, cond_above}
+use Rattle.std.proofs.Common.{arith}
+use Rattle.std.proofs.lemmas.Bool.Decides.{nat_tests}
 use Rattle.store_theory.specs.Calls.{let_go_cue}
 use Rattle.cues.proofs.plotting_store.Plotting+C.let_go.Goals as goal
 
-pub returns-then-cue-self : goal.returns-then-cue-self
+pub returns-then-cue-self-clause-answer : goal.returns-then-cue-self-clause-answer
 unfolding let_go_cue
-returns-then-cue-self g c =
-    record { answer = cond_below c.args.slip.cue c.args.self.now.shape.cues _ _ c.if-cue-self.true; same = record { code = refl; shape = refl } }
+returns-then-cue-self-clause-answer g c = grind (arith, nat_tests)
 
-pub returns-else-cue-self : goal.returns-else-cue-self
+pub returns-else-cue-self-clause-answer : goal.returns-else-cue-self-clause-answer
 unfolding let_go_cue
-returns-else-cue-self g c =
-    record { answer = cond_above c.args.slip.cue c.args.self.now.shape.cues _ _ _ c.if-cue-self.false refl; same = record { code = refl; shape = refl } }
+returns-else-cue-self-clause-answer g c = grind (arith, nat_tests)
