@@ -168,9 +168,9 @@ module _ {A : Arithmetic} {m : Meaning} {shape : Shape} {fit : FitStore A m shap
           }
 
 -- all words, one after another
-module _ {A : Arithmetic} {m : Meaning} {shape : Shape} (fit : FitStore A m shape) (cue : ℕ) (cells : List ℕ) (there : cue < shape.cues) (room-for-all : shape.cells ≤ length cells) where
+module _ {A : Arithmetic} {m : Meaning} {shape : Shape} (fit : FitStore A m shape) {cue memory : ℕ} (cells : List ℕ) (enough : Enough shape cue (length cells) memory) where
   all_room : cell_count A m (plan_in shape) ≤ length cells
-  all_room = omega (arith, cells_are fit.numbers)
+  all_room = omega (arith, cells_are fit.numbers, enough.room)
 
   abbrev words : List (List ℕ)
   words = cue_words A m (plan_in shape) cells cue
@@ -181,14 +181,14 @@ module _ {A : Arithmetic} {m : Meaning} {shape : Shape} (fit : FitStore A m shap
   pub touch_none : cells ≡ over cells (cell_of_word A m (plan_in shape) cue 0) (together (take 0 (map (touched_word A m) words)))
   touch_none = sym (over_nothing cells (cell_of_word A m (plan_in shape) cue 0))
 
-  module _ (word : ℕ) (inside : word < shape.words) (before : List ℕ) (so_far : before ≡ over cells (cell_of_word A m (plan_in shape) cue 0) (together (take word (map (touched_word A m) words)))) where
+  module _ {word : ℕ} (inside : word < shape.words) {before : List ℕ} (so_far : before ≡ over cells (cell_of_word A m (plan_in shape) cue 0) (together (take word (map (touched_word A m) words)))) where
     in_words : word < word_count A m (plan_in shape)
     in_words = omega (arith, fit.numbers.words)
 
     same_word : part before (cell_of_word A m (plan_in shape) cue word) m.n ≡ get_or words word []
     same_word =
         ap (λ (xs : List ℕ). part xs (cell_of_word A m (plan_in shape) cue word) m.n) so_far
-        ∙ word_ahead A m (plan_in shape) cells cue there all_room (map (touched_word A m) words) (touched_long A m fit.keeps (plan_in shape) cells cue there all_room) (touched_count A m fit.keeps (plan_in shape) cells cue) word in_words
+        ∙ word_ahead A m (plan_in shape) cells cue enough.there all_room (map (touched_word A m) words) (touched_long A m fit.keeps (plan_in shape) cells cue enough.there all_room) (touched_count A m fit.keeps (plan_in shape) cells cue) word in_words
         ∙ sym (word_read A m (plan_in shape) cells cue word in_words)
 
     pub touch_more : (after : List ℕ) → after ≡ over before (cell_of_word A m (plan_in shape) cue word) (touched_word A m (part before (cell_of_word A m (plan_in shape) cue word) m.n)) → after ≡ over cells (cell_of_word A m (plan_in shape) cue 0) (together (take (word + 1) (map (touched_word A m) words)))
@@ -196,7 +196,7 @@ module _ {A : Arithmetic} {m : Meaning} {shape : Shape} (fit : FitStore A m shap
         let one : touched_word A m (part before (cell_of_word A m (plan_in shape) cue word) m.n) ≡ get_or (map (touched_word A m) words) word [] =
         ap (touched_word A m) same_word ∙ sym (get_or-map (touched_word A m) words word [] [] (omega (arith, words_count, in_words))) in
         e ∙ ap₂ (λ (xs t : List ℕ). over xs (cell_of_word A m (plan_in shape) cue word) t) so_far one
-        ∙ word_more A m (plan_in shape) cells cue there all_room (map (touched_word A m) words) (touched_long A m fit.keeps (plan_in shape) cells cue there all_room) (touched_count A m fit.keeps (plan_in shape) cells cue) word in_words
+        ∙ word_more A m (plan_in shape) cells cue enough.there all_room (map (touched_word A m) words) (touched_long A m fit.keeps (plan_in shape) cells cue enough.there all_room) (touched_count A m fit.keeps (plan_in shape) cells cue) word in_words
 
     pub counts_more : (test : List ℕ → Bool) (count one : ℕ) → count ≡ count_by test (take word words) → one ≡ cond (test (part before (cell_of_word A m (plan_in shape) cue word) m.n)) 1 0 → count + one ≡ count_by test (take (word + 1) words)
     counts_more test count one c o =

@@ -10,7 +10,7 @@ use Rattle.store_theory.proofs.Blocks.{all_levels_length, messages_count, words_
 use Rattle.store_theory.proofs.Levels.{messages_are_messages}
 use Rattle.store_theory.proofs.Pieces.{get_or_pieces}
 use Rattle.store_theory.proofs.Places.{word_inside}
-use Rattle.store_theory.proofs.Progress.{word_of_levels, word_more, over_nothing, cleared_front}
+use Rattle.store_theory.proofs.Progress.{word_of_levels, word_more, cleared_front}
 use Rattle.theory.specs.Alphabets.{Arithmetic}
 use Rattle.theory.specs.Calls.{Outcome, Answer, accepted, sent}
 use Rattle.theory.specs.Meanings.{Meaning}
@@ -29,6 +29,11 @@ use Rattle.cues.proofs.Sizes.{FitStore, cells_are, start_is}
 pub cleared_same : (w w' : ℕ) (xs ys : List ℕ) → w ≡ w' → w' ≤ length ys → SameBehind w' xs ys → cleared ys 0 w ≡ zeroed w' xs
 cleared_same w w' xs ys e h s =
     ap (cleared ys 0) e ∙ cleared_front w' ys h ∙ ap (λ (zs : List ℕ). replicate w' 0 ++ zs) s
+
+pub memory_cleared : {A : Arithmetic} {m : Meaning} {shape : Shape} (fit : FitStore A m shape) {cue cells : ℕ} (memory after : List ℕ) → Enough shape cue cells (length memory) → length after ≡ length memory → SameBehind m.w memory after → cleared after 0 shape.numbers.working ≡ zeroed m.w memory
+memory_cleared {m = m} {shape = shape} fit memory after enough same =
+    let working = fit.numbers.numbers.working in
+    cleared_same shape.numbers.working m.w memory after working (omega (arith, enough.works, same, working))
 
 module _ {A : Arithmetic} {m : Meaning} {shape : Shape} (fit : FitStore A m shape) (cue : ℕ) (cells memory : List ℕ) (enough : Enough shape cue (length cells) (length memory)) (levels : List ℕ) (fewer : length levels ≤ shape.levels) where
   all : length (all_levels (plan_in shape) levels) ≡ shape.levels
@@ -91,18 +96,16 @@ module _ {A : Arithmetic} {m : Meaning} {shape : Shape} (fit : FitStore A m shap
           ∙ ap (λ (s : List ℕ). over cells (cell_of_word A m (plan_in shape) cue word) (take m.n s)) sent_memory
           ∙ ap (over cells (cell_of_word A m (plan_in shape) cue word)) (take_settled m.w m.n (m.word (message_in shape levels word)) ys word_long ∙ word_is)
 
-  -- the words so far, and all of them
-  pub words_none : cells ≡ over cells (cell_of_word A m (plan_in shape) cue 0) (together (take 0 (words_of A m (plan_in shape) (all_levels (plan_in shape) levels))))
-  words_none = sym (over_nothing cells (cell_of_word A m (plan_in shape) cue 0))
-
-  pub words_more : (word : ℕ) → word < shape.words → (before after : List ℕ) → before ≡ over cells (cell_of_word A m (plan_in shape) cue 0) (together (take word (words_of A m (plan_in shape) (all_levels (plan_in shape) levels)))) → after ≡ over before (cell_of_word A m (plan_in shape) cue word) (get_or (words_of A m (plan_in shape) (all_levels (plan_in shape) levels)) word []) → after ≡ over cells (cell_of_word A m (plan_in shape) cue 0) (together (take (word + 1) (words_of A m (plan_in shape) (all_levels (plan_in shape) levels))))
-  words_more word inside before after b a =
+-- the words so far, and all of them
+module _ {A : Arithmetic} {m : Meaning} {shape : Shape} (fit : FitStore A m shape) {cue : ℕ} (cells memory : List ℕ) (enough : Enough shape cue (length cells) (length memory)) (levels : List ℕ) (fewer : length levels ≤ shape.levels) where
+  pub words_more : {word : ℕ} → word < shape.words → {before after : List ℕ} → before ≡ over cells (cell_of_word A m (plan_in shape) cue 0) (together (take word (words_of A m (plan_in shape) (all_levels (plan_in shape) levels)))) → after ≡ over before (cell_of_word A m (plan_in shape) cue word) (get_or (words_of A m (plan_in shape) (all_levels (plan_in shape) levels)) word []) → after ≡ over cells (cell_of_word A m (plan_in shape) cue 0) (together (take (word + 1) (words_of A m (plan_in shape) (all_levels (plan_in shape) levels))))
+  words_more {word} inside {before} {after} b a =
       a ∙ ap (λ (z : List ℕ). over z (cell_of_word A m (plan_in shape) cue word) (get_or (words_of A m (plan_in shape) (all_levels (plan_in shape) levels)) word [])) b
-      ∙ word_more A m (plan_in shape) cells cue enough.there (omega (arith, cells_are fit.numbers, enough.room)) (words_of A m (plan_in shape) (all_levels (plan_in shape) levels)) (words_long A m fit.keeps (plan_in shape) fit.laws (all_levels (plan_in shape) levels) all) (words_count A m fit.keeps (plan_in shape) fit.laws (all_levels (plan_in shape) levels) all) word (omega (arith, inside, fit.numbers.words))
+      ∙ word_more A m (plan_in shape) cells cue enough.there (omega (arith, cells_are fit.numbers, enough.room)) (words_of A m (plan_in shape) (all_levels (plan_in shape) levels)) (words_long A m fit.keeps (plan_in shape) fit.laws (all_levels (plan_in shape) levels) (all fit cue cells memory enough levels fewer)) (words_count A m fit.keeps (plan_in shape) fit.laws (all_levels (plan_in shape) levels) (all fit cue cells memory enough levels fewer)) word (omega (arith, inside, fit.numbers.words))
 
-  pub words_all : (word : ℕ) → shape.words ≤ word → (after : List ℕ) → after ≡ over cells (cell_of_word A m (plan_in shape) cue 0) (together (take word (words_of A m (plan_in shape) (all_levels (plan_in shape) levels)))) → after ≡ over cells (cell_of_word A m (plan_in shape) cue 0) (together (words_of A m (plan_in shape) (all_levels (plan_in shape) levels)))
-  words_all word h after a =
-      a ∙ ap (λ (ws : List (List ℕ)). over cells (cell_of_word A m (plan_in shape) cue 0) (together ws)) (take_all word (words_of A m (plan_in shape) (all_levels (plan_in shape) levels)) (omega (arith, words_count A m fit.keeps (plan_in shape) fit.laws (all_levels (plan_in shape) levels) all, fit.numbers.words)))
+  pub words_all : {word : ℕ} → shape.words ≤ word → {after : List ℕ} → after ≡ over cells (cell_of_word A m (plan_in shape) cue 0) (together (take word (words_of A m (plan_in shape) (all_levels (plan_in shape) levels)))) → after ≡ over cells (cell_of_word A m (plan_in shape) cue 0) (together (words_of A m (plan_in shape) (all_levels (plan_in shape) levels)))
+  words_all {word} h {after} a =
+      a ∙ ap (λ (ws : List (List ℕ)). over cells (cell_of_word A m (plan_in shape) cue 0) (together ws)) (take_all word (words_of A m (plan_in shape) (all_levels (plan_in shape) levels)) (omega (arith, words_count A m fit.keeps (plan_in shape) fit.laws (all_levels (plan_in shape) levels) (all fit cue cells memory enough levels fewer), fit.numbers.words)))
 
 -- a message is sent, whose word is then copied
 pub record SentWord {A : Arithmetic} {m : Meaning} {shape : Shape} (fit : FitStore A m shape) (cue word : ℕ) (levels cells memory message : List ℕ) (o : Outcome) (zs : List ℕ) : Type 0 where

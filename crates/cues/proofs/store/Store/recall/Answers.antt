@@ -11,7 +11,7 @@ use Rattle.cues.specs.Steps.{symbols_in}
 use Rattle.cues.proofs.Outcomes.{err_refuses, ok_accepts}
 use Rattle.cues.proofs.Recalls.{front_cleared, recall_read, last_recorded}
 use Rattle.cues.proofs.Sizes.{few_is, fit_store}
-use Rattle.cues.proofs.WordWrites.{cleared_same}
+use Rattle.cues.proofs.WordWrites.{memory_cleared}
 use Rattle.cues.proofs.store.Store.recall.Goals as goal
 use Rattle.cues.proofs.store.Store.recall.Goals.{then-is_err, else-is_err}
 
@@ -54,7 +54,6 @@ returns-clause-answer g c h =
     let shape = c.args.self.now.shape in
     let o = store_outcome c.read_levels-read.result in
     let done = c.read_levels-read.ensures h in
-    let works = (c.args.self.now.fits h).numbers.working in
     let shown : o ≡ accepted → c.if-is_err.levels ≡ level_numbers A (plan_in shape) (symbols_in A m (plan_in shape) c.args.cue c.args.cells.now) ++ drop shape.levels c.args.levels.now = elim c.if-is_err.branch [
       | then-is_err w ↦ λ e. absurd (err_refuses c.read_levels-read.result (sym c.is_err.ensures.value ∙ w.if-is_err.true) e)
       | else-is_err w ↦ λ e. w.levels-is ∙ ap (λ (xs : List ℕ). xs ++ drop shape.levels c.args.levels.now) (done.given e)
@@ -63,7 +62,7 @@ returns-clause-answer g c h =
       | then-is_err w ↦ λ never. w.levels-is ∙ w.clear.ensures ∙ front_cleared shape.levels c.args.levels.now c.read_levels-read.new.levels (c.read_levels-read.auto.levels ∙ length-take-le shape.levels c.args.levels.now c.if-levels-count.false)
       | else-is_err w ↦ λ never. absurd (never (ok_accepts c.read_levels-read.result (sym c.is_err.ensures.value ∙ w.if-is_err.false)))
     ] in
-    let clean = c.clear-2.ensures ∙ cleared_same shape.numbers.working m.w c.args.memory.now c.read_levels-read.new.memory works (omega (arith, works, c.read_levels-read.auto.memory, c.in_ok-check_reach.ensures.enough.works)) done.rest in
+    let clean = c.clear-2.ensures ∙ memory_cleared (fit_store g.met.C.Symbols.Alphabet.lawful (g.met.C.Code.keeps c.args.self.now.code h) (c.args.self.now.fits h)) c.args.memory.now c.read_levels-read.new.memory c.in_ok-check_reach.ensures.enough c.read_levels-read.auto.memory done.rest in
     let read = recall_read A m (plan_in shape) c.args.cue (state_in c.args.self.now.kept) c.args.cells.now c.args.levels.now c.args.memory.now o c.if-is_err.levels c.clear-2.new.memory shown dark clean done.answers in
     grind (arith, nat_tests, few, read)
 
