@@ -1,9 +1,9 @@
 // What a script works with besides the store itself: the cells, and the bytes that each call is handed.
 use crate::fault::{Fault, Reason};
-use crate::service::InService;
 use crate::store_outcome::StoreOutcome;
 use crate::text::List;
-use cues::StoreRefusal;
+use codes::code::Code;
+use cues::{Store, StoreRefusal};
 use std::alloc::{AllocError, Global};
 use std::io::Write;
 
@@ -46,10 +46,10 @@ pub struct Desk {
 }
 
 impl Desk {
-    pub fn serve<S: InService>(
+    pub fn serve<C: Code + Drop, S>(
         &mut self,
         heap: Global,
-        store: &mut S,
+        store: &mut Store<C, S>,
         command: Common,
         answer: &mut Vec<u8>,
     ) -> Result<(), Fault> {
@@ -77,7 +77,7 @@ impl Desk {
             Common::TouchUp(cue) => self.touch_up(heap, store, cue, answer)?,
             Common::Recall(cue) => self.recall(heap, store, cue, answer)?,
             Common::Tally => {
-                let tally = store.tally_so_far();
+                let tally = store.tally();
                 writeln!(answer, "tally {tally}")?;
             }
         }
@@ -95,15 +95,15 @@ impl Desk {
         Ok(())
     }
 
-    fn touch_up<S: InService>(
+    fn touch_up<C: Code + Drop, S>(
         &mut self,
         heap: Global,
-        store: &mut S,
+        store: &mut Store<C, S>,
         cue: usize,
         answer: &mut Vec<u8>,
     ) -> Result<(), Fault> {
         let mut memory = self.memory.bytes(heap)?;
-        match store.touch_up_cue(cue, self.cells.as_mut_slice(), memory.as_mut_slice()) {
+        match store.touch_up(cue, self.cells.as_mut_slice(), memory.as_mut_slice()) {
             Ok(touched) => {
                 let changed = touched.changed;
                 let beyond = touched.beyond_reach;
@@ -119,16 +119,16 @@ impl Desk {
         Ok(())
     }
 
-    fn recall<S: InService>(
+    fn recall<C: Code + Drop, S>(
         &mut self,
         heap: Global,
-        store: &mut S,
+        store: &Store<C, S>,
         cue: usize,
         answer: &mut Vec<u8>,
     ) -> Result<(), Fault> {
         let mut memory = self.memory.bytes(heap)?;
         let mut levels = self.levels.bytes(heap)?;
-        let outcome = StoreOutcome(store.recall_cue(
+        let outcome = StoreOutcome(store.recall(
             cue,
             self.cells.as_slice(),
             levels.as_mut_slice(),
@@ -137,6 +137,22 @@ impl Desk {
         let given = List(levels.as_slice());
         let after = List(memory.as_slice());
         writeln!(answer, "{outcome}; levels {given}; memory {after}")?;
+        Ok(())
+    }
+
+    /// Records by this call, which is handed the cells and the working memory.
+    pub fn record<F: FnOnce(&mut [u8], &mut [u8]) -> Result<(), StoreRefusal>>(
+        &mut self,
+        heap: Global,
+        call: F,
+        answer: &mut Vec<u8>,
+    ) -> Result<(), Fault>
+        requires { F.IsAlwaysCallable call }
+    {
+        let mut memory = self.memory.bytes(heap)?;
+        let outcome = StoreOutcome(call(self.cells.as_mut_slice(), memory.as_mut_slice()));
+        let after = List(memory.as_slice());
+        writeln!(answer, "{outcome}; memory {after}")?;
         Ok(())
     }
 }

@@ -6,13 +6,12 @@ use crate::fault::{Fault, Reason};
 use crate::model::Model;
 use crate::next::Next;
 use crate::outcome::Outcome;
-use crate::plotting::serve_plot;
 use crate::slips::Slips;
 use crate::text::List;
 use codes::code::Code;
 use codes::refusals::Refusal;
 use codes::trips::mend_in_reach;
-use cues::{Plotting, Running};
+use cues::{Store, WhilePlotting, WhileRunning};
 use std::alloc::Global;
 use std::io::Write;
 
@@ -99,42 +98,36 @@ impl Holder for UsedUp {
     }
 }
 
-/// A plotting store with all that a script needs for it. The slips that are out have to be let go.
-pub struct AtPlotting<C> {
-    pub store: Plotting<C>,
+/// A store with all that a script needs for it. The slips that are out have to be let go.
+pub struct AtStore<C: Code, S> {
+    pub store: Store<C, S>,
     pub desk: Desk,
     pub slips: Slips,
-    /// How many slips the script was given.
-    pub given: usize,
 }
+
+pub type AtPlotting<C> = AtStore<C, WhilePlotting>;
+
+pub type AtRunning<C> = AtStore<C, WhileRunning>;
 
 impl<C: Code + Drop> AtPlotting<C> {
     pub fn start(self) -> AtRunning<C> {
-        let AtPlotting {
-            store,
-            desk,
-            slips,
-            given,
-        } = self;
-        AtRunning {
+        let AtStore { store, desk, slips } = self;
+        AtStore {
             store: store.start(),
             desk,
             slips,
-            given,
         }
     }
 
     /// Lets every slip go that is still out, and says how many were given.
     pub fn end(self) -> usize {
-        let AtPlotting {
+        let AtStore {
             store,
             desk: _,
             slips,
-            given,
         } = self;
         let mut store = store;
-        slips.let_all_go(&mut store);
-        given
+        slips.let_all_go(&mut store)
     }
 }
 
@@ -151,15 +144,7 @@ impl<C: Code + Drop> Holder for AtPlotting<C> {
                 Ok(Next::Line)
             }
             Command::Plot(plot) => {
-                serve_plot(
-                    heap,
-                    &mut self.store,
-                    &mut self.desk,
-                    &mut self.slips,
-                    &mut self.given,
-                    plot,
-                    answer,
-                )?;
+                self.plot(heap, plot, answer)?;
                 Ok(Next::Line)
             }
             Command::Start => {
@@ -172,27 +157,13 @@ impl<C: Code + Drop> Holder for AtPlotting<C> {
     }
 }
 
-/// A running store with all that a script needs for it.
-pub struct AtRunning<C> {
-    store: Running<C>,
-    desk: Desk,
-    slips: Slips,
-    given: usize,
-}
-
 impl<C: Code + Drop> AtRunning<C> {
     pub fn stop(self) -> AtPlotting<C> {
-        let AtRunning {
-            store,
-            desk,
-            slips,
-            given,
-        } = self;
-        AtPlotting {
+        let AtStore { store, desk, slips } = self;
+        AtStore {
             store: store.stop(),
             desk,
             slips,
-            given,
         }
     }
 }

@@ -11,7 +11,6 @@ mod models;
 mod next;
 mod outcome;
 mod plotting;
-mod service;
 mod session;
 mod slips;
 mod store_outcome;

@@ -1,11 +1,10 @@
 // The commands that a plotting store alone serves.
-use crate::desk::Desk;
 use crate::fault::{Fault, Reason};
-use crate::slips::{Numbered, Slips, slip_of_another_store};
+use crate::holder::AtPlotting;
+use crate::slips::{Numbered, slip_of_another_store};
 use crate::store_outcome::StoreOutcome;
-use crate::text::List;
 use codes::code::Code;
-use cues::{Plotting, Slip, StoreRefusal};
+use cues::{Slip, StoreRefusal};
 use std::alloc::Global;
 use std::io::Write;
 
@@ -21,111 +20,67 @@ pub enum Plot {
     Wipe(usize),
 }
 
-/// Carries the command out and writes its answer. `given` counts the slips that the script was given.
-pub fn serve_plot<C: Code + Drop>(
-    heap: Global,
-    store: &mut Plotting<C>,
-    desk: &mut Desk,
-    slips: &mut Slips,
-    given: &mut usize,
-    command: Plot,
-    answer: &mut Vec<u8>,
-) -> Result<(), Fault> {
-    match command {
-        Plot::Record(cue, levels) => record(heap, store, desk, cue, levels.as_slice(), answer),
-        Plot::RecordBySlip(number, levels) => {
-            record_by_slip(heap, store, desk, slips, number, levels.as_slice(), answer)
-        }
-        Plot::Hold(cue) => {
-            let held = store.hold(cue);
-            give(store, slips, given, held, answer)
-        }
-        Plot::OtherSlip(cue) => give(store, slips, given, slip_of_another_store(cue), answer),
-        Plot::LetGo(number) => let_go(store, slips, number, answer),
-        Plot::Wipe(cue) => {
-            let outcome = StoreOutcome(store.wipe(cue, desk.cells.as_mut_slice()));
-            writeln!(answer, "{outcome}")?;
-            Ok(())
-        }
-    }
-}
-
-fn record<C: Code + Drop>(
-    heap: Global,
-    store: &mut Plotting<C>,
-    desk: &mut Desk,
-    cue: usize,
-    levels: &[u8],
-    answer: &mut Vec<u8>,
-) -> Result<(), Fault> {
-    let mut memory = desk.memory.bytes(heap)?;
-    let recorded = store.record(
-        cue,
-        levels,
-        desk.cells.as_mut_slice(),
-        memory.as_mut_slice(),
-    );
-    let outcome = StoreOutcome(recorded);
-    let after = List(memory.as_slice());
-    writeln!(answer, "{outcome}; memory {after}")?;
-    Ok(())
-}
-
-fn record_by_slip<C: Code + Drop>(
-    heap: Global,
-    store: &mut Plotting<C>,
-    desk: &mut Desk,
-    slips: &mut Slips,
-    number: usize,
-    levels: &[u8],
-    answer: &mut Vec<u8>,
-) -> Result<(), Fault> {
-    let place = slips.place(number).ok_or(Reason::NoSuchSlip)?;
-    let mut memory = desk.memory.bytes(heap)?;
-    let recorded = store.record_by_slip(
-        &slips.out[place].slip,
-        levels,
-        desk.cells.as_mut_slice(),
-        memory.as_mut_slice(),
-    );
-    let outcome = StoreOutcome(recorded);
-    let after = List(memory.as_slice());
-    writeln!(answer, "{outcome}; memory {after}")?;
-    Ok(())
-}
-
-/// Keeps a slip that was given, under the next number.
-fn give<C: Code + Drop>(
-    store: &mut Plotting<C>,
-    slips: &mut Slips,
-    given: &mut usize,
-    held: Result<Slip, StoreRefusal>,
-    answer: &mut Vec<u8>,
-) -> Result<(), Fault> {
-    match held {
-        Ok(slip) => {
-            let number = *given;
-            slips.keep(store, number, slip)?;
-            *given = number.saturating_add(1);
-            writeln!(answer, "slip {number}")?;
-        }
-        Err(why) => {
-            let outcome = StoreOutcome(Err(why));
-            writeln!(answer, "{outcome}")?;
+impl<C: Code + Drop> AtPlotting<C> {
+    /// Carries the command out and writes its answer.
+    pub fn plot(&mut self, heap: Global, command: Plot, answer: &mut Vec<u8>) -> Result<(), Fault> {
+        match command {
+            Plot::Record(cue, levels) => {
+                let store = &mut self.store;
+                self.desk.record(
+                    heap,
+                    |cells, memory| store.record(cue, levels.as_slice(), cells, memory),
+                    answer,
+                )
+            }
+            Plot::RecordBySlip(number, levels) => {
+                let place = self.slips.place(number).ok_or(Reason::NoSuchSlip)?;
+                let store = &mut self.store;
+                let slip = &self.slips.out[place].slip;
+                self.desk.record(
+                    heap,
+                    |cells, memory| store.record_by_slip(slip, levels.as_slice(), cells, memory),
+                    answer,
+                )
+            }
+            Plot::Hold(cue) => {
+                let held = self.store.hold(cue);
+                self.give(held, answer)
+            }
+            Plot::OtherSlip(cue) => self.give(slip_of_another_store(cue), answer),
+            Plot::LetGo(number) => self.let_go(number, answer),
+            Plot::Wipe(cue) => {
+                let outcome = StoreOutcome(self.store.wipe(cue, self.desk.cells.as_mut_slice()));
+                writeln!(answer, "{outcome}")?;
+                Ok(())
+            }
         }
     }
-    Ok(())
-}
 
-fn let_go<C: Code + Drop>(
-    store: &mut Plotting<C>,
-    slips: &mut Slips,
-    number: usize,
-    answer: &mut Vec<u8>,
-) -> Result<(), Fault> {
-    let place = slips.place(number).ok_or(Reason::NoSuchSlip)?;
-    let Numbered { number: _, slip } = slips.out.swap_remove(place);
-    store.let_go(slip);
-    writeln!(answer, "let go")?;
-    Ok(())
+    /// Keeps a slip that was given, and writes its number.
+    fn give(
+        &mut self,
+        held: Result<Slip, StoreRefusal>,
+        answer: &mut Vec<u8>,
+    ) -> Result<(), Fault> {
+        match held {
+            Ok(slip) => {
+                let number = self.slips.keep(&mut self.store, slip)?;
+                writeln!(answer, "slip {number}")?;
+            }
+            Err(why) => {
+                let outcome = StoreOutcome(Err(why));
+                writeln!(answer, "{outcome}")?;
+            }
+        }
+        Ok(())
+    }
+
+    /// Lets the slip of this number go.
+    fn let_go(&mut self, number: usize, answer: &mut Vec<u8>) -> Result<(), Fault> {
+        let place = self.slips.place(number).ok_or(Reason::NoSuchSlip)?;
+        let Numbered { number: _, slip } = self.slips.out.swap_remove(place);
+        self.store.let_go(slip);
+        writeln!(answer, "let go")?;
+        Ok(())
+    }
 }

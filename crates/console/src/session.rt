@@ -4,7 +4,7 @@ ghost use Rattle.console.specs.Text.{pieces_left, chosen, UsesLines, AsksByLines
 use crate::command::Command;
 use crate::desk::{Desk, Filled};
 use crate::fault::Fault;
-use crate::holder::{AtPlotting, Chosen, Holder, NoModel, UsedUp};
+use crate::holder::{AtPlotting, AtStore, Chosen, Holder, NoModel, UsedUp};
 use crate::model::{Model, Name};
 use crate::models::{
     four_pile_model, hamming_model, hexacode_model, mariner, parity3_three, punctured_hexacode,
@@ -107,11 +107,10 @@ fn serve_store<C: Code + Drop>(
         }
     };
     let desk = new_desk(rt, &store, levels)?;
-    let at = AtPlotting {
+    let at = AtStore {
         store,
         desk,
-        slips: Slips::new(rt.alloc()),
-        given: *given,
+        slips: Slips::new(rt.alloc(), *given),
     };
     let (at, next) = plot_and_run(rt, lines, at);
     *given = at.end();

@@ -13,15 +13,18 @@ pub struct Numbered {
     pub slip: Slip,
 }
 
-/// The slips that are out.
+/// The slips that are out, and how many the script was given.
 pub struct Slips {
     pub out: Vec<Numbered>,
+    given: usize,
 }
 
 impl Slips {
-    pub fn new(heap: Global) -> Slips {
+    /// No slip is out, and so many were given.
+    pub fn new(heap: Global, given: usize) -> Slips {
         Slips {
             out: Vec::new(heap),
+            given,
         }
     }
 
@@ -29,23 +32,23 @@ impl Slips {
     pub fn place(&self, number: usize) -> Option<usize>
         ensures { IfSome result (λ place. place < vec_len self.now.out) }
     {
-        for (place, numbered) in self.out.iter().enumerate() {
-            if numbered.number == number {
-                return Some(place);
-            }
-        }
-        None
+        self.out
+            .iter()
+            .position(|numbered| numbered.number == number)
     }
 
-    /// Keeps a slip under this number; where there is no memory for it, it is let go at once.
+    /// Keeps a slip under the next number, and gives that number; where there is no memory for it, it is let go at once.
     pub fn keep<C: Code + Drop>(
         &mut self,
         store: &mut Plotting<C>,
-        number: usize,
         slip: Slip,
-    ) -> Result<(), AllocError> {
+    ) -> Result<usize, AllocError> {
+        let number = self.given;
         match self.out.push(Numbered { number, slip }) {
-            Ok(()) => Ok(()),
+            Ok(()) => {
+                self.given = number.saturating_add(1);
+                Ok(number)
+            }
             Err(refused) => {
                 let Refused { value } = refused;
                 let Numbered { number: _, slip } = value;
@@ -55,15 +58,16 @@ impl Slips {
         }
     }
 
-    /// Lets every slip go that is still out.
-    pub fn let_all_go<C: Code + Drop>(self, store: &mut Plotting<C>) {
-        let Slips { out } = self;
+    /// Lets every slip go that is still out, and says how many were given.
+    pub fn let_all_go<C: Code + Drop>(self, store: &mut Plotting<C>) -> usize {
+        let Slips { out, given } = self;
         let mut out = out;
         while let Some(numbered) = out.pop() {
             let Numbered { number: _, slip } = numbered;
             store.let_go(slip);
         }
         out.destroy_empty();
+        given
     }
 }
 

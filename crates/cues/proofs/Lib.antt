@@ -1,4 +1,3 @@
-pub mod Checks
 pub mod Makings
 pub mod Outcomes
 pub mod Sizes

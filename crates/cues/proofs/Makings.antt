@@ -1,5 +1,5 @@
 -- Making a store, case by case, at numbers that are asked of the code and its alphabet. Assumes nothing.
-use Rattle.std.proofs.Common.{◌≡◌, ℕ, zero, suc, ◌+◌, ◌-◌, ◌*◌, ◌/◌, ◌^◌, ◌<◌, ◌≤◌, [], refl, ap, ap₂, ⊎_elim, mul-le-mul, div-le_self, arith}
+use Rattle.std.proofs.Common.{◌≡◌, ℕ, zero, suc, ◌+◌, ◌-◌, ◌*◌, ◌/◌, ◌^◌, ◌<◌, ◌≤◌, [], None, refl, ap, ap₂, ⊎_elim, mul-le-mul, div-le_self, arith}
 use native.Mathlib.Nat.{pow-le-pow_left, pow-zero, lt-div-mul-add}
 use Rattle.std.proofs.lemmas.Bool.{cases_lt}
 use Rattle.std.proofs.lemmas.Bool.Decides.{nat_tests}
@@ -9,7 +9,7 @@ use Rattle.store_theory.specs.Calls.{store_making}
 use Rattle.store_theory.specs.Checks.{making_check}
 use Rattle.store_theory.specs.Layout.{plan_of, word_count, cell_count}
 use Rattle.theory.specs.Alphabets.{Arithmetic, Lawful}
-use Rattle.theory.specs.Calls.{accepted, refused}
+use Rattle.theory.specs.Calls.{refused}
 use Rattle.theory.specs.Meanings.{Meaning}
 
 -- eight symbols are always enough for a level
@@ -61,7 +61,7 @@ module _ (A : Arithmetic) (m : Meaning) (cues levels width : ℕ) (numbers : Num
         let many : 1048576 < cell_count A m (plan_of cues levels) = omega (arith, cells_are) in
         grind (arith, nat_tests)
 
-    pub making_accepted : cues * ((levels * width + (numbers.dimension - 1)) / numbers.dimension * numbers.length) ≤ 1048576 → store_making A m (plan_of cues levels) ≡ accepted
+    pub making_accepted : cues * ((levels * width + (numbers.dimension - 1)) / numbers.dimension * numbers.length) ≤ 1048576 → making_check A m (plan_of cues levels) ≡ None
     unfolding making_check
     making_accepted h =
         let few : cell_count A m (plan_of cues levels) ≤ 1048576 = omega (arith, cells_are) in

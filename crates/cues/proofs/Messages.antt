@@ -1,10 +1,10 @@
 -- The message that is written symbol by symbol is the one that the definitions cut out of the symbols of all levels.
 -- Assumes nothing.
-use Rattle.std.proofs.Common.{◌≡◌, ℕ, suc, ◌+◌, ◌-◌, ◌*◌, ◌/◌, ◌%◌, ◌^◌, ◌<◌, ◌≤◌, cond, ltb, List, [], ◌∷◌, ◌++◌, map, length, get_or, take, drop, set, sym, ap, ◌∙◌, ap₂, ⊎_elim, append_assoc, mul-le-mul_right, mod-lt, pow-suc, div-add-mod', div-one, arith}
+use Rattle.std.proofs.Common.{◌≡◌, ℕ, suc, ◌+◌, ◌-◌, ◌*◌, ◌/◌, ◌%◌, ◌^◌, ◌<◌, ◌≤◌, cond, ltb, List, [], ◌∷◌, ◌++◌, map, length, get_or, take, drop, set, sym, ap, ◌∙◌, ap₂, ⊎_elim, append_assoc, append-nil, mul-le-mul_right, mod-lt, pow-suc, div-add-mod', div-one, arith}
 use native.Mathlib.Nat.{div-div-eq-div-mul, pow-zero}
 use Rattle.std.specs.List.{range_with_len}
 use Rattle.std.proofs.lemmas.List.FromFn.{length-map-range_with_len, get_or-map-range_with_len, map-range_with_len_more}
-use Rattle.std.proofs.lemmas.List.{ext_get_or, get_or-take, get_or-drop, get_or_past, drop_more, set_at, length-append, length-take-le}
+use Rattle.std.proofs.lemmas.List.{ext_get_or, drop_all, get_or-take, get_or-drop, get_or_past, drop_more, set_at, length-append, length-take-le}
 use Rattle.std.proofs.lemmas.Bool.{cases_lt, cond-true, cond-false, lt-ltb, le-ltb}
 use Rattle.store_theory.specs.Calls.{missing_level, all_levels}
 use Rattle.store_theory.specs.Layout.{Plan, word_count, filled_symbols}
@@ -16,7 +16,7 @@ use Rattle.theory.specs.Alphabets.{Arithmetic}
 use Rattle.theory.specs.Meanings.{Meaning}
 use Rattle.theory.specs.Memory.{over, part}
 use Rattle.theory.proofs.Overs.{length_part}
-use Rattle.cues.specs.Shapes.{plan_in, FitStore}
+use Rattle.cues.specs.Shapes.{plan_in, StoreNumbers}
 use Rattle.cues.specs.Steps.{symbol_in, message_in}
 use Rattle.cues.specs.declared.shape.Shape.{Shape}
 
@@ -33,6 +33,10 @@ set_behind xs a ys v j e h =
     ∙ ap (λ (zs : List ℕ). take a xs ++ zs) (sym (append_assoc ys (v ∷ []) (drop (j + 1) xs)))
     ∙ ap (λ (i : ℕ). take a xs ++ ((ys ++ (v ∷ [])) ++ drop i xs)) behind
 
+-- as many bytes written over all of them
+pub over_all : (xs ys : List ℕ) → length xs ≡ length ys → over xs 0 ys ≡ ys
+over_all xs ys e = ap (λ (zs : List ℕ). ys ++ zs) (drop_all (0 + length ys) xs (omega (arith, e))) ∙ append-nil ys
+
 -- one place more of a list that is made from a function of the place
 pub counted_more : (f : ℕ → ℕ) (xs ys : List ℕ) (i v : ℕ) → ys ≡ over xs 0 (map f (range_with_len 0 i)) → v ≡ f i → i < length xs → set ys i v ≡ over xs 0 (map f (range_with_len 0 (i + 1)))
 counted_more f xs ys i v e is h =
@@ -40,22 +44,15 @@ counted_more f xs ys i v e is h =
     ∙ set_behind xs 0 (map f (range_with_len 0 i)) (f i) i (omega (arith, length-map-range_with_len f 0 i)) h
     ∙ ap (over xs 0) (sym (map-range_with_len_more f 0 i i (omega arith)))
 
--- a symbol less behind
-pub divided_more : (order level place left high : ℕ) → high ≡ level / (order ^ (place - left)) → left ≤ place → 0 < left → high / order ≡ level / (order ^ (place - (left - 1)))
-divided_more order level place left high e l h =
-    let more : suc (place - left) ≡ place - (left - 1) = omega arith in
-    ap (λ (x : ℕ). x / order) e ∙ div-div-eq-div-mul level (order ^ (place - left)) order
-    ∙ ap (λ (x : ℕ). level / x) (sym (pow-suc order (place - left))) ∙ ap (λ (j : ℕ). level / (order ^ j)) more
+-- a level with its last symbols taken off, one after another
+pub divided_none : (order level : ℕ) → level ≡ level / (order ^ 0)
+divided_none order level = sym (div-one level) ∙ ap (λ (x : ℕ). level / x) (sym (pow-zero order))
 
-pub divided_none : (order level place : ℕ) → level ≡ level / (order ^ (place - place))
-divided_none order level place =
-    let none : 0 ≡ place - place = omega arith in
-    sym (div-one level) ∙ ap (λ (x : ℕ). level / x) (sym (pow-zero order)) ∙ ap (λ (j : ℕ). level / (order ^ j)) none
-
-pub divided_all : (order level place left high : ℕ) → high ≡ level / (order ^ (place - left)) → left ≡ 0 → high % order ≡ (level / (order ^ place)) % order
-divided_all order level place left high e none =
-    let whole : place - left ≡ place = omega arith in
-    ap (λ (x : ℕ). x % order) (e ∙ ap (λ (j : ℕ). level / (order ^ j)) whole)
+pub divided_more : (order level place high : ℕ) → high ≡ level / (order ^ place) → high / order ≡ level / (order ^ (place + 1))
+divided_more order level place high e =
+    let more : suc place ≡ place + 1 = omega arith in
+    ap (λ (x : ℕ). x / order) e ∙ div-div-eq-div-mul level (order ^ place) order
+    ∙ ap (λ (x : ℕ). level / x) (sym (pow-suc order place)) ∙ ap (λ (j : ℕ). level / (order ^ j)) more
 
 -- the symbol at a place, by the numbers of the alphabet
 abbrev symbol_by : ℕ → ℕ → ℕ → List ℕ → ℕ → ℕ
@@ -97,7 +94,7 @@ counted_is f xs a k fits h =
     let small : i < k = omega (arith, length-map-range_with_len f 0 k) in
     get_or-map-range_with_len f 0 k i i 0 small (omega arith) ∙ h i small ∙ sym (get_or-take k (drop a xs) i 0 small ∙ get_or-drop a xs i 0))
 
-module _ {fit : Type 0} (A : Arithmetic) (m : Meaning) (shape : Shape) (f : FitStore fit A m shape) (some : 1 ≤ m.k) (levels : List ℕ) (fewer : length levels ≤ shape.levels) where
+module _ {A : Arithmetic} {m : Meaning} {shape : Shape} (f : StoreNumbers A m shape) (some : 1 ≤ m.k) (levels : List ℕ) (fewer : length levels ≤ shape.levels) where
   symbol_is : (j : ℕ) → j < word_count A m (plan_in shape) * m.k → symbol_in shape levels j ≡ get_or (filled_symbols A m (plan_in shape) (all_levels (plan_in shape) levels)) j 0
   symbol_is j inside =
       ap₂ (λ (q b : ℕ). symbol_by q b shape.levels levels j) f.order f.width

@@ -15,9 +15,9 @@ use Rattle.store_theory.proofs.FirstPlaces.{none_passes, first_place_at}
 use Rattle.store_theory.proofs.Levels.{joined_map}
 use Rattle.store_theory.proofs.Pieces.{Long, length_together, part_together}
 use Rattle.store_theory.proofs.Places.{word_read}
-use Rattle.theory.specs.Alphabets.{Arithmetic, Lawful}
+use Rattle.theory.specs.Alphabets.{Arithmetic}
 use Rattle.theory.specs.Calls.{Outcome, Answer, accepted, read_back}
-use Rattle.theory.specs.Meanings.{Meaning, Keeps}
+use Rattle.theory.specs.Meanings.{Meaning}
 use Rattle.theory.specs.Memory.{part, settled}
 use Rattle.theory.specs.Reach.{message_in_reach}
 use Rattle.theory.specs.Words.{Symbols}
@@ -25,9 +25,11 @@ use Rattle.theory.proofs.Calls.{paired, read_word}
 use Rattle.theory.proofs.Memory.{drop_settled, take_settled, length_settled}
 use Rattle.theory.proofs.Reach.{found_in_reach}
 use Rattle.theory.proofs.Trips.{not_accepted}
-use Rattle.cues.specs.Shapes.{plan_in, FitStore}
-use Rattle.cues.specs.Steps.{SameBehind, mended_copy, reach_outcome, AllReached, symbols_in, Loaded, ReadWord}
+use Rattle.cues.specs.Shapes.{plan_in}
+use Rattle.cues.specs.Steps.{mended_copy, reach_outcome, AllReached, symbols_in, Loaded, ReadWord}
 use Rattle.cues.specs.declared.shape.Shape.{Shape}
+use Rattle.cues.proofs.Sizes.{FitStore}
+use Rattle.cues.proofs.WordMends.{MendedWord, mend_leaves}
 
 -- where none passes, every one fails
 pub none_fails : {X : Type 0} (test : X → Bool) (xs : List X) → first_place test xs ≡ None → All (λ x. test x ≡ false) xs
@@ -71,16 +73,16 @@ some_is : (o : Option (List ℕ)) → not (is_some o) ≡ false → o ≡ Some (
 some_is None e = absurd (let z : ◌≡◌ {A = ℕ} 0 1 = cc in omega arith)
 some_is (Some s) e = refl
 
-module _ {fit : Type 0} (A : Arithmetic) (laws : Lawful A) (m : Meaning) (keeps : Keeps A m) (shape : Shape) (f : FitStore fit A m shape) (cue : ℕ) (cells : List ℕ) where
+module _ {A : Arithmetic} {m : Meaning} {shape : Shape} (fit : FitStore A m shape) (cue : ℕ) (cells : List ℕ) where
   abbrev words : List (List ℕ)
   words = cue_words A m (plan_in shape) cells cue
 
   words_count : length (cue_words A m (plan_in shape) cells cue) ≡ word_count A m (plan_in shape)
-  words_count = cue_words_count A m keeps (plan_in shape) cells cue
+  words_count = cue_words_count A m fit.keeps (plan_in shape) cells cue
 
   pub reach_all : (word : ℕ) → shape.words ≤ word → All (λ x. is_beyond_reach A m x ≡ false) (take word words) → accepted ≡ reach_outcome A m (plan_in shape) cue (first_place (is_beyond_reach A m) words) accepted
   reach_all word h all =
-      ap (λ (o : Option ℕ). reach_outcome A m (plan_in shape) cue o accepted) (sym (fails_all (is_beyond_reach A m) words word (omega (arith, words_count, f.words)) all))
+      ap (λ (o : Option ℕ). reach_outcome A m (plan_in shape) cue o accepted) (sym (fails_all (is_beyond_reach A m) words word (omega (arith, words_count, fit.numbers.words)) all))
 
   abbrev message_found : List ℕ → List ℕ
   message_found xs = unwrap_or (message_in_reach A m xs) []
@@ -136,7 +138,7 @@ module _ {fit : Type 0} (A : Arithmetic) (laws : Lawful A) (m : Meaning) (keeps 
     module _ (place : ℕ) (memory : List ℕ) (read : take m.k memory ≡ part (symbols_in A m (plan_in shape) cue cells) (place / m.k * m.k) m.k) where
       pub symbol_read : get_or memory (place % m.k) 0 ≡ get_or (symbols_in A m (plan_in shape) cue cells) place 0
       symbol_read =
-          let small : place % m.k < m.k = mod-lt place keeps.some_symbols in
+          let small : place % m.k < m.k = mod-lt place fit.keeps.some_symbols in
           sym (get_or-take m.k memory (place % m.k) 0 small) ∙ ap (λ (xs : List ℕ). get_or xs (place % m.k) 0) read
           ∙ get_or-take m.k (drop (place / m.k * m.k) (symbols_in A m (plan_in shape) cue cells)) (place % m.k) 0 small
           ∙ get_or-drop (place / m.k * m.k) (symbols_in A m (plan_in shape) cue cells) (place % m.k) 0
@@ -144,67 +146,57 @@ module _ {fit : Type 0} (A : Arithmetic) (laws : Lawful A) (m : Meaning) (keeps 
 
       pub loaded_next : Loaded A m (plan_in shape) cue cells (place + 1) memory
       loaded_next inside =
-          read ∙ ap (λ (j : ℕ). part (symbols_in A m (plan_in shape) cue cells) (j * m.k) m.k) (sym (same_row place m.k keeps.some_symbols inside))
+          read ∙ ap (λ (j : ℕ). part (symbols_in A m (plan_in shape) cue cells) (j * m.k) m.k) (sym (same_row place m.k fit.keeps.some_symbols inside))
 
-  module _ (word : ℕ) (inside : word < shape.words) (memory : List ℕ) (works : m.w ≤ length memory) (ys : List ℕ) (o : Outcome) (mends : paired o ys ≡ mended_copy A m (plan_in shape) cue word (part cells (cell_of_word A m (plan_in shape) cue word) m.n) memory (message_in_reach A m (part cells (cell_of_word A m (plan_in shape) cue word) m.n))) (found_long : length (part cells (cell_of_word A m (plan_in shape) cue word) m.n) ≡ m.n) where
-    abbrev found : List ℕ
-    found = part cells (cell_of_word A m (plan_in shape) cue word) m.n
+module _ {A : Arithmetic} {m : Meaning} {shape : Shape} {fit : FitStore A m shape} {cue word : ℕ} {cells memory : List ℕ} {o : Outcome} {ys : List ℕ} (w : MendedWord fit cue word cells memory o ys) where
+  abbrev found : List ℕ
+  found = part cells (cell_of_word A m (plan_in shape) cue word) m.n
 
-    within : word < word_count A m (plan_in shape)
-    within = omega (arith, f.words)
+  within : word < word_count A m (plan_in shape)
+  within = omega (arith, fit.numbers.words, w.inside)
 
-    short : (s : List ℕ) → message_in_reach A m found ≡ Some s → length (m.word s) ≤ m.w
-    short s e = omega (arith, (keeps.words s (found_in_reach A m found s e).message).long, keeps.room_for_word)
+  here : (r : Option (List ℕ)) → message_in_reach A m found ≡ r → is_beyond_reach A m (get_or (words fit cue cells) word []) ≡ not (is_some r)
+  here r e = ap (is_beyond_reach A m) (word_read A m (plan_in shape) cells cue word within) ∙ ap (λ (q : Option (List ℕ)). not (is_some q)) e
 
-    here : (r : Option (List ℕ)) → message_in_reach A m found ≡ r → is_beyond_reach A m (get_or words word []) ≡ not (is_some r)
-    here r e = ap (is_beyond_reach A m) (word_read A m (plan_in shape) cells cue word within) ∙ ap (λ (q : Option (List ℕ)). not (is_some q)) e
+  pub reach_more : o ≡ accepted → All (λ x. is_beyond_reach A m x ≡ false) (take word (words fit cue cells)) → All (λ x. is_beyond_reach A m x ≡ false) (take (word + 1) (words fit cue cells))
+  reach_more is before = go (message_in_reach A m found) refl w.mends
+    where
+      go : (r : Option (List ℕ)) → message_in_reach A m found ≡ r → paired o ys ≡ mended_copy A m (plan_in shape) cue word found memory r → All (λ x. is_beyond_reach A m x ≡ false) (take (word + 1) (words fit cue cells))
+      go None e a = absurd (not_accepted 3 (cue ∷ word ∷ []) (sym (ap (λ (p : Answer). p.0) a) ∙ is))
+      go (Some s) e a = fails_more (is_beyond_reach A m) (words fit cue cells) word [] (omega (arith, words_count fit cue cells, within)) before (here (Some s) e)
 
-    -- what stands behind is left by every mend
-    pub mend_leaves : SameBehind m.w memory ys
-    mend_leaves = go (message_in_reach A m found) refl mends
-      where
-        go : (r : Option (List ℕ)) → message_in_reach A m found ≡ r → paired o ys ≡ mended_copy A m (plan_in shape) cue word found memory r → SameBehind m.w memory ys
-        go None e a = ap (λ (p : Answer). drop m.w p.1) a ∙ drop_settled m.w found memory (omega (arith, found_long, keeps.room_for_word))
-        go (Some s) e a = ap (λ (p : Answer). drop m.w p.1) a ∙ drop_settled m.w (m.word s) memory (short s e)
+  pub reach_ends : (o ≡ accepted → ⊥) → All (λ x. is_beyond_reach A m x ≡ false) (take word (words fit cue cells)) → o ≡ reach_outcome A m (plan_in shape) cue (first_place (is_beyond_reach A m) (words fit cue cells)) accepted
+  reach_ends never before = go (message_in_reach A m found) refl w.mends
+    where
+      go : (r : Option (List ℕ)) → message_in_reach A m found ≡ r → paired o ys ≡ mended_copy A m (plan_in shape) cue word found memory r → o ≡ reach_outcome A m (plan_in shape) cue (first_place (is_beyond_reach A m) (words fit cue cells)) accepted
+      go None e a =
+          ap (λ (p : Answer). p.0) a
+          ∙ ap (λ (q : Option ℕ). reach_outcome A m (plan_in shape) cue q accepted) (sym (first_place_at (is_beyond_reach A m) (words fit cue cells) word [] (omega (arith, words_count fit cue cells, within)) before (here None e)))
+      go (Some s) e a = absurd (never (ap (λ (p : Answer). p.0) a))
 
-    pub reach_more : o ≡ accepted → All (λ x. is_beyond_reach A m x ≡ false) (take word words) → All (λ x. is_beyond_reach A m x ≡ false) (take (word + 1) words)
-    reach_more is before = go (message_in_reach A m found) refl mends
-      where
-        go : (r : Option (List ℕ)) → message_in_reach A m found ≡ r → paired o ys ≡ mended_copy A m (plan_in shape) cue word found memory r → All (λ x. is_beyond_reach A m x ≡ false) (take (word + 1) words)
-        go None e a = absurd (not_accepted 3 (cue ∷ word ∷ []) (sym (ap (λ (p : Answer). p.0) a) ∙ is))
-        go (Some s) e a = fails_more (is_beyond_reach A m) words word [] (omega (arith, words_count, within)) before (here (Some s) e)
+  module _ (reached : AllReached A m (plan_in shape) cue cells) where
+    abbrev message : List ℕ
+    message = part (symbols_in A m (plan_in shape) cue cells) (word * m.k) m.k
 
-    pub reach_ends : (o ≡ accepted → ⊥) → All (λ x. is_beyond_reach A m x ≡ false) (take word words) → o ≡ reach_outcome A m (plan_in shape) cue (first_place (is_beyond_reach A m) words) accepted
-    reach_ends never before = go (message_in_reach A m found) refl mends
-      where
-        go : (r : Option (List ℕ)) → message_in_reach A m found ≡ r → paired o ys ≡ mended_copy A m (plan_in shape) cue word found memory r → o ≡ reach_outcome A m (plan_in shape) cue (first_place (is_beyond_reach A m) words) accepted
-        go None e a =
-            ap (λ (p : Answer). p.0) a
-            ∙ ap (λ (q : Option ℕ). reach_outcome A m (plan_in shape) cue q accepted) (sym (first_place_at (is_beyond_reach A m) words word [] (omega (arith, words_count, within)) before (here None e)))
-        go (Some s) e a = absurd (never (ap (λ (p : Answer). p.0) a))
+    mended_message : paired o ys ≡ paired accepted (settled m.w (m.word message) memory)
+    mended_message = w.mends ∙ ap (mended_copy A m (plan_in shape) cue word found memory) (message_at_lem fit cue cells reached word within)
 
-    module _ (reached : AllReached A m (plan_in shape) cue cells) where
-      abbrev message : List ℕ
-      message = part (symbols_in A m (plan_in shape) cue cells) (word * m.k) m.k
+    pub mend_accepts : o ≡ accepted
+    mend_accepts = ap (λ (p : Answer). p.0) mended_message
 
-      mended_message : paired o ys ≡ paired accepted (settled m.w (m.word message) memory)
-      mended_message = mends ∙ ap (mended_copy A m (plan_in shape) cue word found memory) (message_at_lem reached word within)
-
-      pub mend_accepts : o ≡ accepted
-      mend_accepts = ap (λ (p : Answer). p.0) mended_message
-
-      pub word_read_back : (zs : List ℕ) (o' : Outcome) → paired o' zs ≡ read_back A m ys → ReadWord A m (plan_in shape) cue word cells memory o' zs
-      word_read_back zs o' reads =
-          let left : ys ≡ settled m.w (m.word message) memory = ap (λ (p : Answer). p.1) mended_message in
-          let is = message_is reached word within in
-          let word_long : length (m.word message) ≡ m.n = (keeps.words message is).long in
-          let fits : length (m.word message) ≤ m.w = omega (arith, word_long, keeps.room_for_word) in
-          let long : m.w ≤ length ys = omega (arith, works, ap length left, length_settled m.w (m.word message) memory fits works) in
-          let front : m.word message ≡ take m.n ys = sym (ap (take m.n) left ∙ take_settled m.w m.n (m.word message) memory word_long) in
-          let answer : paired o' zs ≡ paired accepted (settled m.w message ys) = reads ∙ read_word A m ys keeps long message is front in
-          let after : zs ≡ settled m.w message ys = ap (λ (p : Answer). p.1) answer in
-          record {
-            accepts = ap (λ (p : Answer). p.0) answer;
-            message = ap (take m.k) after ∙ take_settled m.w m.k message ys is.long;
-            rest = ap (drop m.w) after ∙ drop_settled m.w message ys (omega (arith, is.long, keeps.room_for_message)) ∙ mend_leaves;
-          }
+    pub word_read_back : (zs : List ℕ) (o' : Outcome) → paired o' zs ≡ read_back A m ys → ReadWord A m (plan_in shape) cue word cells memory o' zs
+    word_read_back zs o' reads =
+        let works : m.w ≤ length memory = omega (arith, w.enough.works, fit.numbers.numbers.working) in
+        let left : ys ≡ settled m.w (m.word message) memory = ap (λ (p : Answer). p.1) mended_message in
+        let is = message_is fit cue cells reached word within in
+        let word_long : length (m.word message) ≡ m.n = (fit.keeps.words message is).long in
+        let fits : length (m.word message) ≤ m.w = omega (arith, word_long, fit.keeps.room_for_word) in
+        let long : m.w ≤ length ys = omega (arith, works, ap length left, length_settled m.w (m.word message) memory fits works) in
+        let front : m.word message ≡ take m.n ys = sym (ap (take m.n) left ∙ take_settled m.w m.n (m.word message) memory word_long) in
+        let answer : paired o' zs ≡ paired accepted (settled m.w message ys) = reads ∙ read_word A m ys fit.keeps long message is front in
+        let after : zs ≡ settled m.w message ys = ap (λ (p : Answer). p.1) answer in
+        record {
+          accepts = ap (λ (p : Answer). p.0) answer;
+          message = ap (take m.k) after ∙ take_settled m.w m.k message ys is.long;
+          rest = ap (drop m.w) after ∙ drop_settled m.w message ys (omega (arith, is.long, fit.keeps.room_for_message)) ∙ mend_leaves w;
+        }

@@ -1,3 +1,4 @@
 pub mod Refusals
 pub mod Shapes
 pub mod Steps
+pub mod Stores

@@ -1,5 +1,5 @@
 -- What the steps of the calls come to: one symbol, one word, one level, and all of them.
-use Rattle.std.specs.Prelude.{◌≡◌, ℕ, ◌+◌, ◌-◌, ◌*◌, ◌/◌, ◌%◌, ◌^◌, min, cond, ltb, List, [], ◌∷◌, ◌++◌, map, take, drop, Some, None, Ok, count_by, Option, Result, ◌≢◌, nat_lt, slice_index, slice_index_or}
+use Rattle.std.specs.Prelude.{◌≡◌, ℕ, ◌+◌, ◌-◌, ◌*◌, ◌/◌, ◌%◌, ◌^◌, cond, ltb, List, [], ◌∷◌, map, take, drop, Some, None, Ok, count_by, Option, Result, ◌≢◌, nat_lt, slice_index, slice_index_or}
 use Rattle.std.specs.List.{range_with_len}
 use Rattle.std.specs.Option.{option_map}
 use Rattle.store_theory.specs.Calls.{missing_level, all_levels, touched_word, changes, is_beyond_reach, first_place, symbols_found, level_fault, mend_fault, fault_of_code, zeroed}
@@ -8,6 +8,7 @@ use Rattle.theory.specs.Alphabets.{Arithmetic}
 use Rattle.theory.specs.Calls.{Outcome, accepted, refused}
 use Rattle.theory.specs.Meanings.{Meaning}
 use Rattle.theory.specs.Memory.{over, part, settled}
+use Rattle.theory.specs.Reach.{message_in_reach}
 use Rattle.cues.specs.declared.refusals.StoreRefusal.{StoreRefusal}
 use Rattle.cues.specs.declared.shape.Shape.{Shape}
 
@@ -20,6 +21,14 @@ symbol_in shape levels place =
 abbrev pub message_in : Shape → List ℕ → ℕ → List ℕ
 message_in shape levels word =
     map (λ place. symbol_in shape levels (word * shape.numbers.dimension + place)) (range_with_len 0 shape.numbers.dimension)
+
+-- a number, if it is at most 255; and one with one more symbol behind it
+abbrev pub as_byte : ℕ → Option ℕ
+as_byte number = cond (nat_lt 255 number) None (Some number)
+
+abbrev pub carried_byte : Option ℕ → ℕ → ℕ → Option ℕ
+carried_byte None order symbol = None
+carried_byte (Some number) order symbol = as_byte (number * order + symbol)
 
 -- the working memory behind its first bytes is as it was
 abbrev pub SameBehind : ℕ → List ℕ → List ℕ → Type 0
@@ -55,6 +64,12 @@ module _ (A : Arithmetic) (m : Meaning) (p : Plan) (cue : ℕ) where
   mended_copy word found memory None = (fault_of_code cue word (mend_fault m), settled m.w found memory)
   mended_copy word found memory (Some s) = (accepted, settled m.w (m.word s) memory)
 
+  -- that, of a word as it is found in its cells
+  abbrev pub mended_in_memory : ℕ → List ℕ → List ℕ → Outcome × List ℕ
+  mended_in_memory word cells memory =
+      let found = part cells (cell_of_word A m p cue word) m.n in
+      mended_copy word found memory (message_in_reach A m found)
+
   -- the first word beyond reach is the answer; otherwise what follows
   abbrev pub reach_outcome : Option ℕ → Outcome → Outcome
   reach_outcome None after = after
@@ -88,8 +103,8 @@ module _ (A : Arithmetic) (m : Meaning) (p : Plan) (cue : ℕ) where
     pub loaded : Loaded cells (place + 1) memory'
     pub rest : SameBehind m.w memory memory'
 
-  pub record ReadLevel (level : ℕ) (cells memory : List ℕ) (answer : Result ℕ StoreRefusal) (memory' : List ℕ) : Type 0 where
-    pub answers : answer ≡ Ok (min 256 (slice_index (level_numbers A p (symbols_in cells)) level))
+  pub record ReadLevel (level : ℕ) (cells memory : List ℕ) (answer : Result (Option ℕ) StoreRefusal) (memory' : List ℕ) : Type 0 where
+    pub answers : answer ≡ Ok (as_byte (slice_index (level_numbers A p (symbols_in cells)) level))
     pub loaded : Loaded cells ((level + 1) * A.b) memory'
     pub rest : SameBehind m.w memory memory'
 
@@ -99,11 +114,10 @@ module _ (A : Arithmetic) (m : Meaning) (p : Plan) (cue : ℕ) where
   level_outcome (Some level) = refused 16 (cue ∷ level ∷ [])
 
   -- the levels are shown up to the first whose number passes 255
-  pub record ShownLevels (cells levels memory : List ℕ) (answer : Outcome) (levels' memory' : List ℕ) : Type 0 where
+  pub record ShownLevels (cells memory : List ℕ) (answer : Outcome) (levels' memory' : List ℕ) : Type 0 where
     pub answers : answer ≡ level_outcome (first_place (λ number. ltb 255 number) (level_numbers A p (symbols_in cells)))
-    pub given : answer ≡ accepted → levels' ≡ level_numbers A p (symbols_in cells) ++ drop p.levels levels
+    pub given : answer ≡ accepted → levels' ≡ level_numbers A p (symbols_in cells)
     pub loaded : answer ≡ accepted → Loaded cells (symbol_count A p) memory'
-    pub others : SameBehind p.levels levels levels'
     pub rest : SameBehind m.w memory memory'
 
   -- the filling is gone over for a symbol that is not 0
@@ -112,8 +126,7 @@ module _ (A : Arithmetic) (m : Meaning) (p : Plan) (cue : ℕ) where
     pub rest : SameBehind m.w memory memory'
 
   -- a recall before anything is zeroed
-  pub record ReadLevels (cells levels memory : List ℕ) (answer : Outcome) (levels' memory' : List ℕ) : Type 0 where
+  pub record ReadLevels (cells memory : List ℕ) (answer : Outcome) (levels' memory' : List ℕ) : Type 0 where
     pub answers : answer ≡ reach_outcome (first_place (is_beyond_reach A m) (cue_words A m p cells cue)) (level_outcome (level_fault A p (symbols_in cells)))
-    pub given : answer ≡ accepted → levels' ≡ level_numbers A p (symbols_in cells) ++ drop p.levels levels
-    pub others : SameBehind p.levels levels levels'
+    pub given : answer ≡ accepted → levels' ≡ level_numbers A p (symbols_in cells)
     pub rest : SameBehind m.w memory memory'

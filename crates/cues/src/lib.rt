@@ -6,6 +6,7 @@ pub mod making;
 pub mod plotting_store;
 pub mod reading;
 pub mod refusals;
+pub mod refusing;
 pub mod running_store;
 pub mod shape;
 pub mod store;
@@ -13,7 +14,6 @@ pub mod symbols;
 pub mod touching;
 pub mod writing;
 
-pub use plotting_store::{Plotting, Slip};
+pub use plotting_store::Slip;
 pub use refusals::StoreRefusal;
-pub use running_store::Running;
-pub use store::Touched;
+pub use store::{Plotting, Running, Store, Touched, WhilePlotting, WhileRunning};

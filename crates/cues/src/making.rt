@@ -1,7 +1,7 @@
 // Making: the numbers of a store are worked out and checked.
 ghost use Rattle.std.specs.Prelude.{◌≡◌, IfOk};
 ghost use Rattle.cues.specs.Refusals.{store_outcome};
-ghost use Rattle.cues.specs.Shapes.{plan_in, FitStore};
+ghost use Rattle.cues.specs.Shapes.{plan_in, StoreNumbers};
 ghost use Rattle.store_theory.specs.Calls.{store_making};
 ghost use Rattle.store_theory.specs.Layout.{plan_of};
 
@@ -21,7 +21,7 @@ pub const MOST_CELLS: usize = 1_048_576;
 /// The numbers of a store of so many cues and levels over this code. A code without symbols is unfit.
 pub(crate) fn shape_of<C: Code>(code: &C, cues: usize, levels: usize) -> Result<Shape, StoreRefusal>
     ensures making { C.Code.fit code.now → store_outcome result ≡ store_making C.Symbols.Alphabet.symbols (C.Code.meaning code.now) (plan_of cues levels) }
-    ensures fits { C.Code.fit code.now → IfOk result (λ s. FitStore (C.Code.fit code.now) C.Symbols.Alphabet.symbols (C.Code.meaning code.now) s) }
+    ensures fits { C.Code.fit code.now → IfOk result (λ s. StoreNumbers C.Symbols.Alphabet.symbols (C.Code.meaning code.now) s) }
     ensures plan { IfOk result (λ s. plan_in s ≡ plan_of cues levels) }
 {
     if cues < 1 || cues > MOST_CUES || levels < 1 || levels > MOST_LEVELS {

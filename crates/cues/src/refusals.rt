@@ -1,6 +1,8 @@
 // Why a store refuses. specs/Refusals.antt has the number and the values of each.
 ghost use Rattle.std.specs.Prelude.{◌≡◌};
-ghost use Rattle.cues.specs.Refusals.{store_number};
+ghost use Rattle.codes.specs.Refusals.{outcome};
+ghost use Rattle.cues.specs.Refusals.{store_number, store_outcome};
+ghost use Rattle.store_theory.specs.Calls.{fault_of_code};
 
 use codes::refusals::Refusal;
 
@@ -54,4 +56,15 @@ impl StoreRefusal {
             StoreRefusal::NotHeld => 17,
         }
     }
+}
+
+/// The code's answer for this word of this cue, as the store's answer.
+pub(crate) fn of_word(
+    answer: Result<(), Refusal>,
+    cue: usize,
+    word: usize,
+) -> Result<(), StoreRefusal>
+    ensures { store_outcome result ≡ fault_of_code cue word (outcome answer) }
+{
+    answer.map_err(|fault| StoreRefusal::Code { cue, word, fault })
 }

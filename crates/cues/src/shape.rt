@@ -1,5 +1,5 @@
 // The numbers of a store, worked out once when it is made.
-ghost use Rattle.std.specs.Prelude.{◌≡◌, ◌+◌, ◌*◌, ◌<◌, ◌≤◌, ◌||◌, nat_lt};
+ghost use Rattle.std.specs.Prelude.{◌≡◌, ◌+◌, ◌*◌, ◌<◌, ◌≤◌};
 
 use parts::numbers::Numbers;
 
@@ -30,13 +30,6 @@ pub struct Shape {
 }
 
 impl Shape {
-    /// Whether there are fewer cells than all cues have, or less working memory than the code works in.
-    pub(crate) fn is_short(&self, cells: usize, memory: usize) -> bool
-        ensures { result ≡ (nat_lt cells self.now.cells || nat_lt memory self.now.numbers.working) }
-    {
-        cells < self.cells || memory < self.numbers.working
-    }
-
     /// The cell of place 0 of this word of this cue.
     pub(crate) fn word_start(&self, cue: usize, word: usize) -> usize
         requires { (cue < self.now.cues) × (word < self.now.words) }

@@ -1,7 +1,6 @@
 // Levels as symbols: which symbol stands where in the messages of a cue, and numbers as they are read back.
-ghost use Rattle.std.specs.Prelude.{◌≡◌, ◌+◌, ◌*◌, ◌/◌, ◌%◌, ◌^◌, ◌<◌, ◌≤◌, min, length};
-ghost use Rattle.cues.specs.Steps.{symbol_in, message_in};
-ghost use Rattle.theory.specs.Memory.{over};
+ghost use Rattle.std.specs.Prelude.{◌≡◌, ◌+◌, ◌*◌, ◌/◌, ◌%◌, ◌^◌, ◌<◌, ◌≤◌, length};
+ghost use Rattle.cues.specs.Steps.{symbol_in, message_in, carried_byte};
 
 use crate::shape::Shape;
 
@@ -14,10 +13,8 @@ fn digit(level: u8, order: u8, place: usize) -> u8
     ensures { result ≡ (level / (order ^ place)) % order }
 {
     let mut high = level;
-    let mut left = place;
-    while left > 0 {
+    for _ in 0..place {
         high /= order;
-        left -= 1;
     }
     high % order
 }
@@ -30,31 +27,25 @@ pub(crate) fn symbol(shape: &Shape, levels: &[u8], place: usize) -> u8
     if index >= shape.levels {
         return 0;
     }
-    let level = if index < levels.len() {
-        levels[index]
-    } else {
-        MISSING_LEVEL
-    };
+    let level = levels.get(index).copied().unwrap_or(MISSING_LEVEL);
     digit(level, shape.order, shape.width - 1 - place % shape.width)
 }
 
-/// Writes this message of the levels to the front of the memory.
-pub(crate) fn write_message(shape: &Shape, levels: &[u8], word: usize, memory: &mut [u8])
-    requires { (word < shape.now.words) × (shape.now.numbers.working ≤ length memory.old) }
-    ensures { memory.new ≡ over memory.old 0 (message_in shape.now levels.now word) }
+/// Writes this message of the levels.
+pub(crate) fn write_message(shape: &Shape, levels: &[u8], word: usize, message: &mut [u8])
+    requires word { word < shape.now.words }
+    requires message { length message.old ≡ shape.now.numbers.dimension }
+    ensures { message.new ≡ message_in shape.now levels.now word }
 {
-    let dimension = shape.numbers.dimension;
-    let start = word * dimension;
-    for place in 0..dimension {
-        memory[place] = symbol(shape, levels, start + place);
+    let start = word * shape.numbers.dimension;
+    for (place, byte) in message.iter_mut().enumerate() {
+        *byte = symbol(shape, levels, start + place);
     }
 }
 
-/// The number with one more symbol behind it. What passes 255 stays above it, and its size does not matter.
-pub(crate) fn carried(number: usize, order: u8, symbol: u8) -> usize
-    requires { number ≤ 256 }
-    ensures { result ≡ min 256 (number * order + symbol) }
+/// The number with one more symbol behind it, if both are at most 255.
+pub(crate) fn carried(number: Option<u8>, order: u8, symbol: u8) -> Option<u8>
+    ensures { result ≡ carried_byte number order symbol }
 {
-    let longer = number * order as usize + symbol as usize;
-    if longer < 256 { longer } else { 256 }
+    number?.checked_mul(order)?.checked_add(symbol)
 }

@@ -1,8 +1,9 @@
 // Touching up: each word of a cue is mended in the working memory, and copied back if that changed it.
 ghost use Rattle.std.specs.Prelude.{◌≡◌, ◌+◌, ◌<◌, ◌≤◌, min, length};
 ghost use Rattle.cues.specs.Refusals.{touch_outcome};
-ghost use Rattle.cues.specs.Shapes.{plan_in, state_in, FitStore, SameStore, Enough};
+ghost use Rattle.cues.specs.Shapes.{plan_in, state_in, Enough};
 ghost use Rattle.cues.specs.Steps.{TouchedOne, TouchedAll};
+ghost use Rattle.cues.specs.Stores.{of_store, SameStore};
 ghost use Rattle.store_theory.specs.Calls.{touched_up_cue};
 
 use crate::refusals::StoreRefusal;
@@ -17,34 +18,29 @@ const MOST_TALLY: u16 = 65_535;
 pub(crate) fn tally_with(tally: u16, more: usize) -> u16
     ensures { result ≡ min 65535 (tally + more) }
 {
-    let room = MOST_TALLY - tally;
-    if more < room as usize {
-        tally + more as u16
-    } else {
-        MOST_TALLY
-    }
+    tally.saturating_add(u16::try_from(more).unwrap_or(MOST_TALLY))
 }
 
-impl<C: Code + Drop> Store<C> {
+impl<C: Code + Drop, S> Store<C, S> {
     /// Mends one word in its cells; one beyond reach stays.
     fn touch_word(&self, cue: usize, word: usize, cells: &mut [u8], memory: &mut [u8]) -> Touched
-        requires { (Enough self.now.shape cue (length cells.old) (length memory.old)) × (word < self.now.shape.words) }
+        requires enough { Enough self.now.shape cue (length cells.old) (length memory.old) }
+        requires there { word < self.now.shape.words }
         ensures small { (result.changed ≤ 1) × (result.beyond_reach ≤ 1) }
-        ensures answer { FitStore (C.Code.fit self.now.code) C.Symbols.Alphabet.symbols (C.Code.meaning self.now.code) self.now.shape → TouchedOne C.Symbols.Alphabet.symbols (C.Code.meaning self.now.code) (plan_in self.now.shape) cue word cells.old memory.old result.changed result.beyond_reach cells.new memory.new }
+        ensures answer { C.Code.fit self.now.code → of_store self.now TouchedOne cue word cells.old memory.old result.changed result.beyond_reach cells.new memory.new }
     {
-        let length = self.shape.numbers.length;
-        let start = self.shape.word_start(cue, word);
-        copy_between(memory, 0, cells, start, length);
-        if self.code.mend(memory).is_err() {
+        if self.mend_word(cue, word, cells, memory).is_err() {
             return Touched {
                 changed: 0,
                 beyond_reach: 1,
             };
         }
+        let length = self.shape.numbers.length;
+        let start = self.shape.word_start(cue, word);
         let same = memory[0..length] == cells[start..start + length];
         copy_between(cells, start, memory, 0, length);
         Touched {
-            changed: if same { 0 } else { 1 },
+            changed: usize::from(!same),
             beyond_reach: 0,
         }
     }
@@ -52,7 +48,7 @@ impl<C: Code + Drop> Store<C> {
     /// Mends all words of the cue in their cells, and clears the working memory.
     pub(crate) fn touch_words(&self, cue: usize, cells: &mut [u8], memory: &mut [u8]) -> Touched
         requires { Enough self.now.shape cue (length cells.old) (length memory.old) }
-        ensures { FitStore (C.Code.fit self.now.code) C.Symbols.Alphabet.symbols (C.Code.meaning self.now.code) self.now.shape → TouchedAll C.Symbols.Alphabet.symbols (C.Code.meaning self.now.code) (plan_in self.now.shape) cue cells.old memory.old result.changed result.beyond_reach cells.new memory.new }
+        ensures { C.Code.fit self.now.code → of_store self.now TouchedAll cue cells.old memory.old result.changed result.beyond_reach cells.new memory.new }
     {
         let mut changed = 0;
         let mut beyond_reach = 0;
@@ -68,22 +64,18 @@ impl<C: Code + Drop> Store<C> {
         }
     }
 
-    /// Touches the cue up and adds the changed words to the tally.
-    pub(crate) fn touch_up(
+    /// Mends each word of the cue in its cells (scrubbing); one beyond reach stays. Answers how many words changed and how
+    /// many are beyond reach; the tally grows by the changed ones.
+    pub fn touch_up(
         &mut self,
         cue: usize,
         cells: &mut [u8],
         memory: &mut [u8],
     ) -> Result<Touched, StoreRefusal>
-        ensures answer { FitStore (C.Code.fit self.old.code) C.Symbols.Alphabet.symbols (C.Code.meaning self.old.code) self.old.shape → (touch_outcome result, state_in self.new.kept, cells.new, memory.new) ≡ touched_up_cue C.Symbols.Alphabet.symbols (C.Code.meaning self.old.code) (plan_in self.old.shape) cue (state_in self.old.kept) cells.old memory.old }
+        ensures answer { C.Code.fit self.old.code → (touch_outcome result, state_in self.new.kept, cells.new, memory.new) ≡ of_store self.old touched_up_cue cue (state_in self.old.kept) cells.old memory.old }
         ensures same { SameStore self.old self.new }
     {
-        if cue >= self.shape.cues {
-            return Err(StoreRefusal::NoSuchCue);
-        }
-        if self.shape.is_short(cells.len(), memory.len()) {
-            return Err(StoreRefusal::ShortMemory);
-        }
+        self.shape.check_reach(cue, cells.len(), memory.len())?;
         if !self.kept.marks[cue].recorded {
             return Err(StoreRefusal::Empty);
         }

@@ -1,12 +1,13 @@
-use Rattle.std.proofs.Common.{sym, refl, arith}
+use Rattle.std.proofs.Common.{sym, refl, ap, arith}
 use Rattle.std.proofs.lemmas.Bool.Decides.{nat_tests}
+use Rattle.store_theory.specs.Calls.{outcome_of}
 use Rattle.store_theory.specs.Checks.{making_check}
 use Rattle.cues.proofs.Makings.{width_some, width_narrow, few_level_symbols, few_words, few_cue_cells, few_cells_lem, enough_words_lem, words_are, too_many_cells, making_accepted}
 use Rattle.cues.proofs.making.shape_of.Goals as goal
 
-pub returns-then-cues-lt1 : goal.returns-then-cues-lt1
+pub returns-then-cues-lt1-clause-making : goal.returns-then-cues-lt1-clause-making
 unfolding making_check
-returns-then-cues-lt1 g c = record { making = λ fit. grind (arith, nat_tests); fits = λ fit. tt; plan = tt }
+returns-then-cues-lt1-clause-making g c fit = grind (arith, nat_tests)
 
 pub overflow_mul-words : goal.overflow_mul-words
 overflow_mul-words g c =
@@ -60,9 +61,8 @@ pub returns : goal.returns
 returns g c =
     let accepts = λ (fit : g.C.Code.fit c.args.code.now). making_accepted g.C.Symbols.Alphabet.symbols (g.C.Code.meaning c.args.code.now) c.args.cues c.args.levels c.width-width.result c.in-Some.numbers (c.in-Some.ensures fit) c.width-width.ensures (omega arith) (omega arith) (omega arith) (omega arith) c.if-cells-gt-MOST_CELLS.false in
     record {
-      making = λ fit. sym (accepts fit);
+      making = λ fit. sym (ap outcome_of (accepts fit));
       fits = λ fit. record {
-        code = fit;
         order = c.order-order.ensures;
         width = c.width-width.ensures;
         numbers = c.in-Some.ensures fit;

@@ -1,24 +1,13 @@
 use Rattle.std.proofs.Common.{ℕ, ap, ◌∙◌}
-use Rattle.codes.specs.Refusals.{refusal_number, refusal_values}
-use Rattle.theory.specs.Calls.{accepted, refused}
+use Rattle.codes.specs.Refusals.{outcome}
 use Rattle.theory.specs.Memory.{copied}
+use Rattle.theory.proofs.Calls.{paired}
+use Rattle.cues.proofs.Sizes.{fit_store}
 use Rattle.cues.proofs.WordMends.{mended_copy_lem}
 use Rattle.cues.proofs.store.Store.mend_word.Goals as goal
 
-pub returns-in-Ok : goal.returns-in-Ok
-returns-in-Ok g c f =
-    let A = g.C.Symbols.Alphabet.symbols in
-    let laws = g.met.C.Symbols.Alphabet.lawful in
-    let code = c.args.self.now.code in
-    let shape = c.args.self.now.shape in
-    let m = g.C.Code.meaning code in
-    mended_copy_lem A laws m (g.met.C.Code.keeps code f.code) shape f c.args.cue c.args.cells.now c.args.memory.now c.requires.0 c.args.word c.requires.1 c.copy_between.new.memory c.mend.new.memory accepted (c.copy_between.ensures ∙ ap (λ (a : ℕ). copied c.args.memory.now 0 c.args.cells.now a shape.numbers.length) c.word_start-start.ensures) (c.in-Ok.ensures f.code)
-
-pub returns-in-Err : goal.returns-in-Err
-returns-in-Err g c f =
-    let A = g.C.Symbols.Alphabet.symbols in
-    let laws = g.met.C.Symbols.Alphabet.lawful in
-    let code = c.args.self.now.code in
-    let shape = c.args.self.now.shape in
-    let m = g.C.Code.meaning code in
-    mended_copy_lem A laws m (g.met.C.Code.keeps code f.code) shape f c.args.cue c.args.cells.now c.args.memory.now c.requires.0 c.args.word c.requires.1 c.copy_between.new.memory c.mend.new.memory (refused (refusal_number c.in-Err.fault) (refusal_values c.in-Err.fault)) (c.copy_between.ensures ∙ ap (λ (a : ℕ). copied c.args.memory.now 0 c.args.cells.now a shape.numbers.length) c.word_start-start.ensures) (c.in-Err.ensures f.code)
+pub returns : goal.returns
+returns g c h =
+    let length = c.args.self.now.shape.numbers.length in
+    ap (λ o. paired o c.mend.new.memory) c.of_word.ensures
+    ∙ mended_copy_lem (fit_store g.met.C.Symbols.Alphabet.lawful (g.met.C.Code.keeps c.args.self.now.code h) (c.args.self.now.fits h)) c.args.cue c.args.cells.now c.args.memory.now c.requires.enough c.args.word c.requires.there c.copy_between.new.memory c.mend.new.memory (outcome c.mend.result) (c.copy_between.ensures ∙ ap (λ (a : ℕ). copied c.args.memory.now 0 c.args.cells.now a length) c.word_start-start.ensures) (c.mend.ensures h)

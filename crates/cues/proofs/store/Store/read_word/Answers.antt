@@ -1,36 +1,20 @@
-use Rattle.std.proofs.Common.{arith}
+use Rattle.std.proofs.Common.{ap, ◌∙◌}
 use Rattle.codes.specs.Refusals.{outcome}
-use Rattle.parts.proofs.Outcomes.{err_is_refused as read-is-refused}
-use Rattle.theory.specs.Calls.{accepted}
+use Rattle.store_theory.specs.Calls.{fault_of_code}
 use Rattle.cues.specs.Refusals.{store_outcome}
 use Rattle.cues.proofs.Outcomes.{err_is_refused}
-use Rattle.cues.proofs.Sizes.{found_length}
+use Rattle.cues.proofs.Sizes.{fit_store}
+use Rattle.cues.proofs.WordMends.{MendedWord}
 use Rattle.cues.proofs.WordReads.{mend_accepts, word_read_back}
 use Rattle.cues.proofs.store.Store.read_word.Goals as goal
 
 pub returns-in_err-mend_word : goal.returns-in_err-mend_word
-returns-in_err-mend_word g c f reached =
-    let A = g.C.Symbols.Alphabet.symbols in
-    let laws = g.met.C.Symbols.Alphabet.lawful in
-    let code = c.args.self.now.code in
-    let shape = c.args.self.now.shape in
-    let m = g.C.Code.meaning code in
-    absurd (err_is_refused c.mend_word.result c.in_err-mend_word.field-0.0 c.in_err-mend_word.was (mend_accepts A laws m (g.met.C.Code.keeps code f.code) shape f c.args.cue c.args.cells.now c.args.word c.requires.1 c.args.memory.now (omega (arith, c.requires.0.works, f.numbers.working)) c.mend_word.new.memory (store_outcome c.mend_word.result) (c.mend_word.ensures f) (found_length A m shape f c.args.cue c.args.cells.now c.requires.0.there c.requires.0.room c.args.word c.requires.1) reached))
+returns-in_err-mend_word g c h reached =
+    let w : MendedWord (fit_store g.met.C.Symbols.Alphabet.lawful (g.met.C.Code.keeps c.args.self.now.code h) (c.args.self.now.fits h)) c.args.cue c.args.word c.args.cells.now c.args.memory.now (store_outcome c.mend_word.result) c.mend_word.new.memory = record { inside = c.requires.there; enough = c.requires.enough; mends = c.mend_word.ensures h } in
+    absurd (err_is_refused c.mend_word.result c.in_err-mend_word.field-0.0 c.in_err-mend_word.was (mend_accepts w reached))
 
-pub returns-in-Ok : goal.returns-in-Ok
-returns-in-Ok g c f reached =
-    let A = g.C.Symbols.Alphabet.symbols in
-    let laws = g.met.C.Symbols.Alphabet.lawful in
-    let code = c.args.self.now.code in
-    let shape = c.args.self.now.shape in
-    let m = g.C.Code.meaning code in
-    word_read_back A laws m (g.met.C.Code.keeps code f.code) shape f c.args.cue c.args.cells.now c.args.word c.requires.1 c.args.memory.now (omega (arith, c.requires.0.works, f.numbers.working)) c.mend_word.new.memory (store_outcome c.mend_word.result) (c.mend_word.ensures f) (found_length A m shape f c.args.cue c.args.cells.now c.requires.0.there c.requires.0.room c.args.word c.requires.1) reached c.read.new.memory accepted (c.in-Ok.ensures f.code)
-
-pub returns-in-Err : goal.returns-in-Err
-returns-in-Err g c f reached =
-    let A = g.C.Symbols.Alphabet.symbols in
-    let laws = g.met.C.Symbols.Alphabet.lawful in
-    let code = c.args.self.now.code in
-    let shape = c.args.self.now.shape in
-    let m = g.C.Code.meaning code in
-    absurd (read-is-refused c.read.result c.in-Err.fault c.in-Err.is (word_read_back A laws m (g.met.C.Code.keeps code f.code) shape f c.args.cue c.args.cells.now c.args.word c.requires.1 c.args.memory.now (omega (arith, c.requires.0.works, f.numbers.working)) c.mend_word.new.memory (store_outcome c.mend_word.result) (c.mend_word.ensures f) (found_length A m shape f c.args.cue c.args.cells.now c.requires.0.there c.requires.0.room c.args.word c.requires.1) reached c.read.new.memory (outcome c.read.result) (c.read.ensures f.code)).accepts)
+pub returns : goal.returns
+returns g c h reached =
+    let w : MendedWord (fit_store g.met.C.Symbols.Alphabet.lawful (g.met.C.Code.keeps c.args.self.now.code h) (c.args.self.now.fits h)) c.args.cue c.args.word c.args.cells.now c.args.memory.now (store_outcome c.mend_word.result) c.mend_word.new.memory = record { inside = c.requires.there; enough = c.requires.enough; mends = c.mend_word.ensures h } in
+    let back = word_read_back w reached c.read.new.memory (outcome c.read.result) (c.read.ensures h) in
+    record { accepts = c.of_word.ensures ∙ ap (fault_of_code c.args.cue c.args.word) back.accepts; message = back.message; rest = back.rest }

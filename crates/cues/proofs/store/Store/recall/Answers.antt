@@ -1,89 +1,71 @@
-use Rattle.std.proofs.Common.{◌≡◌, true, ◌||◌, ltb, ◌++◌, length, drop, sym, refl, ◌∙◌, subst, arith}
-use Rattle.std.proofs.lemmas.Bool.{or_left, or_right, lt-ltb, not_from_true, not_from_false}
-use Rattle.store_theory.specs.Calls.{StoreAnswer, zeroed}
-use Rattle.store_theory.specs.Checks.{few_bytes}
+use Rattle.std.proofs.Common.{◌≡◌, ℕ, List, ◌++◌, drop, sym, ap, ◌∙◌, arith}
+use Rattle.std.proofs.lemmas.Bool.Decides.{nat_tests}
+use Rattle.std.proofs.lemmas.List.{length-take-le}
+use Rattle.store_theory.specs.Calls.{recalled_cue, zeroed}
+use Rattle.store_theory.specs.Checks.{recall_check}
 use Rattle.store_theory.specs.Layout.{level_numbers}
-use Rattle.store_theory.specs.Statements.{LastRecorded}
-use Rattle.store_theory.proofs.Recalls.{recall_gives_what_was_last_recorded}
 use Rattle.theory.specs.Calls.{accepted}
 use Rattle.cues.specs.Refusals.{store_outcome}
-use Rattle.cues.specs.Shapes.{plan_in, state_in, FitStore}
+use Rattle.cues.specs.Shapes.{plan_in, state_in}
 use Rattle.cues.specs.Steps.{symbols_in}
-use Rattle.cues.proofs.Checks.{few_is, enough_from}
 use Rattle.cues.proofs.Outcomes.{err_refuses, ok_accepts}
-use Rattle.cues.proofs.Recalls.{recall_no_cue, recall_too_short, recall_empty, recall_read}
-use Rattle.cues.proofs.WordWrites.{cleared_same}
+use Rattle.cues.proofs.Recalls.{front_cleared, recall_read, last_recorded}
+use Rattle.cues.proofs.Sizes.{few_is, fit_store}
+use Rattle.cues.proofs.WordWrites.{memory_cleared}
 use Rattle.cues.proofs.store.Store.recall.Goals as goal
-use Rattle.cues.proofs.store.Store.recall.Goals.{then-is_short-via-then-is_short, then-is_short-via-else-is_short+then-levels-self, then-is_err, else-is_err}
+use Rattle.cues.proofs.store.Store.recall.Goals.{then-is_err, else-is_err}
 
-pub returns-then-cue-self : goal.returns-then-cue-self
-returns-then-cue-self g c =
+pub returns-in_err-check_reach-clause-answer : goal.returns-in_err-check_reach-clause-answer
+unfolding recalled_cue recall_check
+returns-in_err-check_reach-clause-answer g c h =
+    let few = few_is (c.args.self.now.fits h) in
+    grind (arith, nat_tests, few)
+
+pub returns-in_err-check_reach-clause-recall_gives_what_was_last_recorded : goal.returns-in_err-check_reach-clause-recall_gives_what_was_last_recorded
+returns-in_err-check_reach-clause-recall_gives_what_was_last_recorded g c h =
+    last_recorded (fit_store g.met.C.Symbols.Alphabet.lawful (g.met.C.Code.keeps c.args.self.now.code h) (c.args.self.now.fits h)) c.args.cue (state_in c.args.self.now.kept) c.args.cells.now c.args.levels.now c.args.memory.now (returns-in_err-check_reach-clause-answer g c h)
+
+pub returns-then-levels-count-clause-answer : goal.returns-then-levels-count-clause-answer
+unfolding recalled_cue recall_check
+returns-then-levels-count-clause-answer g c h =
+    let few = few_is (c.args.self.now.fits h) in
+    grind (arith, nat_tests, few)
+
+pub returns-then-levels-count-clause-recall_gives_what_was_last_recorded : goal.returns-then-levels-count-clause-recall_gives_what_was_last_recorded
+returns-then-levels-count-clause-recall_gives_what_was_last_recorded g c h =
+    last_recorded (fit_store g.met.C.Symbols.Alphabet.lawful (g.met.C.Code.keeps c.args.self.now.code h) (c.args.self.now.fits h)) c.args.cue (state_in c.args.self.now.kept) c.args.cells.now c.args.levels.now c.args.memory.now (returns-then-levels-count-clause-answer g c h)
+
+pub returns-then-not-self-cue-clause-answer : goal.returns-then-not-self-cue-clause-answer
+unfolding recalled_cue recall_check
+returns-then-not-self-cue-clause-answer g c h =
+    let few = few_is (c.args.self.now.fits h) in
+    grind (arith, nat_tests, few)
+
+pub returns-then-not-self-cue-clause-recall_gives_what_was_last_recorded : goal.returns-then-not-self-cue-clause-recall_gives_what_was_last_recorded
+returns-then-not-self-cue-clause-recall_gives_what_was_last_recorded g c h =
+    last_recorded (fit_store g.met.C.Symbols.Alphabet.lawful (g.met.C.Code.keeps c.args.self.now.code h) (c.args.self.now.fits h)) c.args.cue (state_in c.args.self.now.kept) c.args.cells.now c.args.levels.now c.args.memory.now (returns-then-not-self-cue-clause-answer g c h)
+
+pub returns-clause-answer : goal.returns-clause-answer
+unfolding recalled_cue recall_check
+returns-clause-answer g c h =
+    let few = few_is (c.args.self.now.fits h) in
     let A = g.C.Symbols.Alphabet.symbols in
-    let code = c.args.self.now.code in
+    let m = g.C.Code.meaning c.args.self.now.code in
     let shape = c.args.self.now.shape in
-    let m = g.C.Code.meaning code in
-    let answer = λ (f : FitStore (g.C.Code.fit code) A m shape). recall_no_cue A m (plan_in shape) c.args.cue (state_in c.args.self.now.kept) c.args.cells.now c.args.levels.now c.args.memory.now c.if-cue-self.true in
-    record {
-      answer = answer;
-      recall_gives_what_was_last_recorded = λ f. subst (λ (left : StoreAnswer). LastRecorded A m (plan_in shape) c.args.cue (state_in c.args.self.now.kept) c.args.cells.now c.args.levels.now c.args.memory.now left) (sym (answer f)) (recall_gives_what_was_last_recorded A g.met.C.Symbols.Alphabet.lawful m (g.met.C.Code.keeps code f.code) (plan_in shape) f.making c.args.cue (state_in c.args.self.now.kept) c.args.cells.now c.args.levels.now c.args.memory.now);
-    }
-
-pub returns-then-is_short : goal.returns-then-is_short
-returns-then-is_short g c =
-    let A = g.C.Symbols.Alphabet.symbols in
-    let code = c.args.self.now.code in
-    let shape = c.args.self.now.shape in
-    let m = g.C.Code.meaning code in
-    let short = λ (f : FitStore (g.C.Code.fit code) A m shape).
-    let few : (few_bytes A m (plan_in shape) (length c.args.cells.now) (length c.args.memory.now) || ltb (length c.args.levels.now) shape.levels) ≡ true = elim c.then-is_short.branch [
-      | then-is_short-via-then-is_short w ↦ or_left _ _ (sym (few_is A m shape f (length c.args.cells.now) (length c.args.memory.now)) ∙ sym c.is_short.ensures ∙ w.if-is_short.true)
-      | then-is_short-via-else-is_short+then-levels-self w ↦ or_right _ _ (lt-ltb (length c.args.levels.now) shape.levels w.if-levels-self.true)
-    ] in
-    few in
-    let answer = λ (f : FitStore (g.C.Code.fit code) A m shape). recall_too_short A m (plan_in shape) c.args.cue (state_in c.args.self.now.kept) c.args.cells.now c.args.levels.now c.args.memory.now c.if-cue-self.false (short f) in
-    record {
-      answer = answer;
-      recall_gives_what_was_last_recorded = λ f. subst (λ (left : StoreAnswer). LastRecorded A m (plan_in shape) c.args.cue (state_in c.args.self.now.kept) c.args.cells.now c.args.levels.now c.args.memory.now left) (sym (answer f)) (recall_gives_what_was_last_recorded A g.met.C.Symbols.Alphabet.lawful m (g.met.C.Code.keeps code f.code) (plan_in shape) f.making c.args.cue (state_in c.args.self.now.kept) c.args.cells.now c.args.levels.now c.args.memory.now);
-    }
-
-pub returns-then-not-self-cue : goal.returns-then-not-self-cue
-returns-then-not-self-cue g c =
-    let A = g.C.Symbols.Alphabet.symbols in
-    let code = c.args.self.now.code in
-    let shape = c.args.self.now.shape in
-    let m = g.C.Code.meaning code in
-    let answer = λ (f : FitStore (g.C.Code.fit code) A m shape). recall_empty A m (plan_in shape) c.args.cue (state_in c.args.self.now.kept) c.args.cells.now c.args.levels.now c.args.memory.now c.if-cue-self.false (sym (few_is A m shape f (length c.args.cells.now) (length c.args.memory.now)) ∙ sym c.is_short.ensures ∙ c.if-is_short.false) c.if-levels-self.false (not_from_false _ c.if-not-self-cue.true) in
-    record {
-      answer = answer;
-      recall_gives_what_was_last_recorded = λ f. subst (λ (left : StoreAnswer). LastRecorded A m (plan_in shape) c.args.cue (state_in c.args.self.now.kept) c.args.cells.now c.args.levels.now c.args.memory.now left) (sym (answer f)) (recall_gives_what_was_last_recorded A g.met.C.Symbols.Alphabet.lawful m (g.met.C.Code.keeps code f.code) (plan_in shape) f.making c.args.cue (state_in c.args.self.now.kept) c.args.cells.now c.args.levels.now c.args.memory.now);
-    }
-
-pub read_levels-read-requires : goal.read_levels-read-requires
-read_levels-read-requires g c =
-    (enough_from c.args.self.now.shape c.args.cue (length c.args.cells.now) (length c.args.memory.now) c.if-cue-self.false (sym c.is_short.ensures ∙ c.if-is_short.false), c.if-levels-self.false)
-
-pub returns : goal.returns
-returns g c =
-    let A = g.C.Symbols.Alphabet.symbols in
-    let code = c.args.self.now.code in
-    let shape = c.args.self.now.shape in
-    let m = g.C.Code.meaning code in
     let o = store_outcome c.read_levels-read.result in
-    let shown = λ (f : FitStore (g.C.Code.fit code) A m shape).
-    let by_way : o ≡ accepted → c.if-is_err.levels ≡ level_numbers A (plan_in shape) (symbols_in A m (plan_in shape) c.args.cue c.args.cells.now) ++ drop shape.levels c.args.levels.now = elim c.if-is_err.branch [
+    let done = c.read_levels-read.ensures h in
+    let shown : o ≡ accepted → c.if-is_err.levels ≡ level_numbers A (plan_in shape) (symbols_in A m (plan_in shape) c.args.cue c.args.cells.now) ++ drop shape.levels c.args.levels.now = elim c.if-is_err.branch [
       | then-is_err w ↦ λ e. absurd (err_refuses c.read_levels-read.result (sym c.is_err.ensures.value ∙ w.if-is_err.true) e)
-      | else-is_err w ↦ λ e. w.levels-is ∙ (c.read_levels-read.ensures f).given e
+      | else-is_err w ↦ λ e. w.levels-is ∙ ap (λ (xs : List ℕ). xs ++ drop shape.levels c.args.levels.now) (done.given e)
     ] in
-    by_way in
-    let dark = λ (f : FitStore (g.C.Code.fit code) A m shape).
-    let by_way : (o ≡ accepted → ⊥) → c.if-is_err.levels ≡ zeroed shape.levels c.args.levels.now = elim c.if-is_err.branch [
-      | then-is_err w ↦ λ never. w.levels-is ∙ w.clear.ensures ∙ cleared_same shape.levels shape.levels c.args.levels.now c.read_levels-read.new.levels refl (omega (arith, c.read_levels-read.auto.levels, c.if-levels-self.false)) (c.read_levels-read.ensures f).others
+    let dark : (o ≡ accepted → ⊥) → c.if-is_err.levels ≡ zeroed shape.levels c.args.levels.now = elim c.if-is_err.branch [
+      | then-is_err w ↦ λ never. w.levels-is ∙ w.clear.ensures ∙ front_cleared shape.levels c.args.levels.now c.read_levels-read.new.levels (c.read_levels-read.auto.levels ∙ length-take-le shape.levels c.args.levels.now c.if-levels-count.false)
       | else-is_err w ↦ λ never. absurd (never (ok_accepts c.read_levels-read.result (sym c.is_err.ensures.value ∙ w.if-is_err.false)))
     ] in
-    by_way in
-    let clean = λ (f : FitStore (g.C.Code.fit code) A m shape). c.clear-2.ensures ∙ cleared_same shape.numbers.working m.w c.args.memory.now c.read_levels-read.new.memory f.numbers.working (omega (arith, c.read_levels-read.auto.memory, (enough_from shape c.args.cue (length c.args.cells.now) (length c.args.memory.now) c.if-cue-self.false (sym c.is_short.ensures ∙ c.if-is_short.false)).works, f.numbers.working)) (c.read_levels-read.ensures f).rest in
-    let answer = λ (f : FitStore (g.C.Code.fit code) A m shape). recall_read A m (plan_in shape) c.args.cue (state_in c.args.self.now.kept) c.args.cells.now c.args.levels.now c.args.memory.now c.if-cue-self.false (sym (few_is A m shape f (length c.args.cells.now) (length c.args.memory.now)) ∙ sym c.is_short.ensures ∙ c.if-is_short.false) c.if-levels-self.false (not_from_true _ c.if-not-self-cue.false) o c.if-is_err.levels c.clear-2.new.memory (shown f) (dark f) (clean f) (c.read_levels-read.ensures f).answers in
-    record {
-      answer = answer;
-      recall_gives_what_was_last_recorded = λ f. subst (λ (left : StoreAnswer). LastRecorded A m (plan_in shape) c.args.cue (state_in c.args.self.now.kept) c.args.cells.now c.args.levels.now c.args.memory.now left) (sym (answer f)) (recall_gives_what_was_last_recorded A g.met.C.Symbols.Alphabet.lawful m (g.met.C.Code.keeps code f.code) (plan_in shape) f.making c.args.cue (state_in c.args.self.now.kept) c.args.cells.now c.args.levels.now c.args.memory.now);
-    }
+    let clean = c.clear-2.ensures ∙ memory_cleared (fit_store g.met.C.Symbols.Alphabet.lawful (g.met.C.Code.keeps c.args.self.now.code h) (c.args.self.now.fits h)) c.args.memory.now c.read_levels-read.new.memory c.in_ok-check_reach.ensures.enough c.read_levels-read.auto.memory done.rest in
+    let read = recall_read A m (plan_in shape) c.args.cue (state_in c.args.self.now.kept) c.args.cells.now c.args.levels.now c.args.memory.now o c.if-is_err.levels c.clear-2.new.memory shown dark clean done.answers in
+    grind (arith, nat_tests, few, read)
+
+pub returns-clause-recall_gives_what_was_last_recorded : goal.returns-clause-recall_gives_what_was_last_recorded
+returns-clause-recall_gives_what_was_last_recorded g c h =
+    last_recorded (fit_store g.met.C.Symbols.Alphabet.lawful (g.met.C.Code.keeps c.args.self.now.code h) (c.args.self.now.fits h)) c.args.cue (state_in c.args.self.now.kept) c.args.cells.now c.args.levels.now c.args.memory.now (returns-clause-answer g c h)

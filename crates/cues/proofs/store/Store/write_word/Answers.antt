@@ -1,29 +1,22 @@
 use Rattle.std.proofs.Common.{ℕ, refl, ap, ◌∙◌}
 use Rattle.codes.specs.Refusals.{outcome}
 use Rattle.theory.specs.Memory.{copied}
-use Rattle.parts.proofs.Outcomes.{err_is_refused}
-use Rattle.cues.proofs.WordWrites.{send_accepts, send_leaves, word_copied}
+use Rattle.store_theory.specs.Calls.{fault_of_code}
+use Rattle.cues.proofs.Outcomes.{err_is_refused}
+use Rattle.cues.proofs.Sizes.{fit_store}
+use Rattle.cues.proofs.WordWrites.{SentWord, sent_accepts, sent_leaves, sent_copied}
 use Rattle.cues.proofs.store.Store.write_word.Goals as goal
 
-pub returns-in-Err : goal.returns-in-Err
-returns-in-Err g c f =
-    let A = g.C.Symbols.Alphabet.symbols in
-    let laws = g.met.C.Symbols.Alphabet.lawful in
-    let code = c.args.self.now.code in
-    let m = g.C.Code.meaning code in
-    let keeps = g.met.C.Code.keeps code f.code in
-    absurd (err_is_refused c.send.result c.in-Err.fault c.in-Err.is (send_accepts A laws m keeps c.args.self.now.shape f c.args.cue c.args.cells.now c.args.memory.now c.requires.0 c.args.levels.now c.requires.1.1 c.args.word c.requires.1.0 c.write_message.new.memory c.send.new.memory (outcome c.send.result) c.write_message.ensures (c.send.ensures f.code)))
+pub returns-in_err-of_word : goal.returns-in_err-of_word
+returns-in_err-of_word g c h =
+    let w : SentWord (fit_store g.met.C.Symbols.Alphabet.lawful (g.met.C.Code.keeps c.args.self.now.code h) (c.args.self.now.fits h)) c.args.cue c.args.word c.args.levels.now c.args.cells.now c.args.memory.now c.write_message.new.message (outcome c.send.result) c.send.new.memory = record { inside = c.requires.there; enough = c.requires.enough; fewer = c.requires.fewer; written = c.write_message.ensures; sends = c.send.ensures h } in
+    absurd (err_is_refused c.of_word.result c.in_err-of_word.field-0.0 c.in_err-of_word.was (c.of_word.ensures ∙ ap (fault_of_code c.args.cue c.args.word) (sent_accepts w)))
 
 pub returns : goal.returns
-returns g c f =
-    let A = g.C.Symbols.Alphabet.symbols in
-    let laws = g.met.C.Symbols.Alphabet.lawful in
-    let code = c.args.self.now.code in
-    let m = g.C.Code.meaning code in
-    let keeps = g.met.C.Code.keeps code f.code in
-    let shape = c.args.self.now.shape in
+returns g c h =
+    let w : SentWord (fit_store g.met.C.Symbols.Alphabet.lawful (g.met.C.Code.keeps c.args.self.now.code h) (c.args.self.now.fits h)) c.args.cue c.args.word c.args.levels.now c.args.cells.now c.args.memory.now c.write_message.new.message (outcome c.send.result) c.send.new.memory = record { inside = c.requires.there; enough = c.requires.enough; fewer = c.requires.fewer; written = c.write_message.ensures; sends = c.send.ensures h } in
     record {
       accepts = refl;
-      written = c.copy_between.ensures ∙ ap (λ (a : ℕ). copied c.args.cells.now a c.send.new.memory 0 shape.numbers.length) c.word_start-start.ensures ∙ word_copied A laws m keeps shape f c.args.cue c.args.cells.now c.args.memory.now c.requires.0 c.args.levels.now c.requires.1.1 c.args.word c.requires.1.0 c.write_message.new.memory c.send.new.memory (outcome c.send.result) c.write_message.ensures (c.send.ensures f.code);
-      rest = send_leaves A laws m keeps shape f c.args.cue c.args.cells.now c.args.memory.now c.requires.0 c.args.levels.now c.requires.1.1 c.args.word c.requires.1.0 c.write_message.new.memory c.send.new.memory (outcome c.send.result) c.write_message.ensures (c.send.ensures f.code);
+      written = c.copy_between.ensures ∙ ap (λ (a : ℕ). copied c.args.cells.now a c.send.new.memory 0 c.args.self.now.shape.numbers.length) c.word_start-start.ensures ∙ sent_copied w;
+      rest = sent_leaves w;
     }
