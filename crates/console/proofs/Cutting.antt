@@ -1,44 +1,59 @@
 -- A list cut at the first c, place by place.
-use Rattle.std.proofs.Common.{◌≡◌, ℕ, ◌+◌, ◌<◌, ◌≤◌, Bool, true, false, cond, eqb, List, [], ◌∷◌, ◌++◌, length, get_or, take, drop, IfSome, Some, None, Option, sym, refl, ap, ◌∙◌, subst, append_assoc, append-nil, arith, Bor}
-use Rattle.std.proofs.lemmas.List.{at_drop_more, at_drop_all, take_more, take_all}
-use Rattle.std.proofs.lemmas.Bool.{eq-eqb, ne_eqb}
+use Rattle.std.proofs.Common.{◌≡◌, ℕ, ◌+◌, ◌<◌, Bool, true, false, cond, eqb, List, [], ◌∷◌, length, take, drop, unwrap_or, nat_lt, not, IfSome, Some, None, Option, sym, refl, ap, ◌∙◌, subst, arith, Bor}
+use Rattle.std.proofs.lemmas.List.{take_all}
+use Rattle.std.proofs.lemmas.Grind.{common_steps}
+use Rattle.std.specs.List.{position, position_or_len}
 use Rattle.std.specs.Option.{option_map}
 use Rattle.console.specs.declared.text.Pieces.{Pieces}
 use Rattle.console.specs.Text.{before, after, longer, pieces, to_come, pieces_left}
 
-module _ (c : ℕ) (xs : List ℕ) (i : ℕ) where
-  -- the byte at i is not c
-  pub before_more : i < length xs → (get_or xs i 0 ≡ c → ⊥) → take i xs ++ before c (drop i xs) ≡ before c xs → take (i + 1) xs ++ before c (drop (i + 1) xs) ≡ before c xs
-  before_more lt ne inv =
-      let step : before c (drop i xs) ≡ cond (eqb (get_or xs i 0) c) [] (get_or xs i 0 ∷ before c (drop (i + 1) xs)) = at_drop_more (before c) xs i 0 lt in
-      let other = ne_eqb (get_or xs i 0) c ne in
-      rw (take_more xs i 0 lt, append_assoc) (rw (step, other) at inv)
+-- the place of the first c
+abbrev pub place : ℕ → List ℕ → Option ℕ
+place c xs = position (λ x. eqb x c) xs
 
-  pub after_more : i < length xs → (get_or xs i 0 ≡ c → ⊥) → after c (drop i xs) ≡ after c xs → after c (drop (i + 1) xs) ≡ after c xs
-  after_more lt ne inv =
-      let step : after c (drop i xs) ≡ cond (eqb (get_or xs i 0) c) (Some (drop (i + 1) xs)) (after c (drop (i + 1) xs)) = at_drop_more (after c) xs i 0 lt in
-      let other = ne_eqb (get_or xs i 0) c ne in
-      rw (step, other) at inv
+-- one place on
+abbrev on : Option ℕ → Option ℕ
+on o = option_map (λ i. i + 1) o
 
-  -- the byte at i is c
-  pub before_found : i < length xs → get_or xs i 0 ≡ c → take i xs ++ before c (drop i xs) ≡ before c xs → take i xs ≡ before c xs
-  before_found lt eq inv =
-      let step : before c (drop i xs) ≡ cond (eqb (get_or xs i 0) c) [] (get_or xs i 0 ∷ before c (drop (i + 1) xs)) = at_drop_more (before c) xs i 0 lt in
-      let same = eq-eqb (get_or xs i 0) c eq in
-      rw (step, same, append-nil) at inv
+place_cons : (c x : ℕ) (xs : List ℕ) → place c (x ∷ xs) ≡ cond (eqb x c) (Some 0) (on (place c xs))
+place_cons c x xs = at (eqb x c) (position_or_len (λ x. eqb x c) xs)
+  where
+    at : (b : Bool) (n : ℕ) → cond (nat_lt (cond (not b) (1 + n) 0) (length (x ∷ xs))) (Some (cond (not b) (1 + n) 0)) None ≡ cond b (Some 0) (on (cond (nat_lt n (length xs)) (Some n) None))
+    at true n = grind (arith, common_steps)
+    at false n = grind (arith, common_steps)
 
-  pub after_found : i < length xs → get_or xs i 0 ≡ c → after c (drop i xs) ≡ after c xs → Some (drop (i + 1) xs) ≡ after c xs
-  after_found lt eq inv =
-      let step : after c (drop i xs) ≡ cond (eqb (get_or xs i 0) c) (Some (drop (i + 1) xs)) (after c (drop (i + 1) xs)) = at_drop_more (after c) xs i 0 lt in
-      let same = eq-eqb (get_or xs i 0) c eq in
-      rw (step, same) at inv
+pub before_place : (c : ℕ) (xs : List ℕ) → take (unwrap_or (place c xs) (length xs)) xs ≡ before c xs
+before_place c [] = refl
+before_place c (x ∷ xs) = rw (place_cons c x xs) (at (eqb x c) (place c xs) (before_place c xs))
+  where
+    at : (b : Bool) (o : Option ℕ) → take (unwrap_or o (length xs)) xs ≡ before c xs → take (unwrap_or (cond b (Some 0) (on o)) (length (x ∷ xs))) (x ∷ xs) ≡ cond b [] (x ∷ before c xs)
+    at true o e = refl
+    at false None e = grind (arith, common_steps)
+    at false (Some i) e = grind (arith, common_steps)
 
-  -- no byte is c
-  pub before_end : length xs ≤ i → take i xs ++ before c (drop i xs) ≡ before c xs → xs ≡ before c xs
-  before_end le inv = rw (at_drop_all (before c) xs i le, append-nil, take_all i xs le) at inv
+pub after_place : (c : ℕ) (xs : List ℕ) → option_map (λ i. drop (i + 1) xs) (place c xs) ≡ after c xs
+after_place c [] = refl
+after_place c (x ∷ xs) = rw (place_cons c x xs) (at (eqb x c) (place c xs) (after_place c xs))
+  where
+    at : (b : Bool) (o : Option ℕ) → option_map (λ i. drop (i + 1) xs) o ≡ after c xs → option_map (λ i. drop (i + 1) (x ∷ xs)) (cond b (Some 0) (on o)) ≡ cond b (Some xs) (after c xs)
+    at true o e = grind (arith, common_steps)
+    at false None e = e
+    at false (Some i) e = grind (arith, common_steps)
 
-  pub after_end : length xs ≤ i → after c (drop i xs) ≡ after c xs → None ≡ after c xs
-  after_end le inv = rw (at_drop_all (after c) xs i le) at inv
+-- what `cut` does where it finds c, and where it doesn't
+pub cut_found : (c : ℕ) (xs : List ℕ) (o : Option ℕ) (i : ℕ) → o ≡ place c xs → o ≡ Some i → (take i xs ≡ before c xs) × (Some (drop (i + 1) xs) ≡ after c xs)
+cut_found c xs o i e is =
+    let at : Some i ≡ place c xs = sym is ∙ e in (
+      ap (λ o. take (unwrap_or o (length xs)) xs) at ∙ before_place c xs,
+      ap (option_map (λ i. drop (i + 1) xs)) at ∙ after_place c xs,
+    )
+
+pub cut_whole : (c : ℕ) (xs : List ℕ) (o : Option ℕ) → o ≡ place c xs → o ≡ None → (xs ≡ before c xs) × (None ≡ after c xs)
+cut_whole c xs o e is =
+    let at : None ≡ place c xs = sym is ∙ e in (
+      sym (take_all (length xs) xs (omega arith)) ∙ ap (λ o. take (unwrap_or o (length xs)) xs) at ∙ before_place c xs,
+      ap (option_map (λ i. drop (i + 1) xs)) at ∙ after_place c xs,
+    )
 
 -- the pieces of a text are what stands before the first c, and then the pieces of what stands after it
 pub pieces_cut : (c : ℕ) (xs : List ℕ) → pieces c xs ≡ before c xs ∷ elim (after c xs) [ None ↦ [] | Some ys ↦ pieces c ys ]

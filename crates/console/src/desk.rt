@@ -1,7 +1,7 @@
 // What a script works with besides the store itself: the cells, and the bytes that each call is handed.
 use crate::fault::{Fault, Reason};
+use crate::outcome::Outcome;
 use crate::service::InService;
-use crate::store_outcome::StoreOutcome;
 use crate::text::List;
 use cues::StoreRefusal;
 use std::alloc::{AllocError, Global};
@@ -110,7 +110,7 @@ impl Desk {
                 write!(answer, "changed {changed}, beyond reach {beyond}")?;
             }
             Err(why) => {
-                let outcome = StoreOutcome(Err(why));
+                let outcome = Outcome(Err(why));
                 write!(answer, "{outcome}")?;
             }
         }
@@ -128,7 +128,7 @@ impl Desk {
     ) -> Result<(), Fault> {
         let mut memory = self.memory.bytes(heap)?;
         let mut levels = self.levels.bytes(heap)?;
-        let outcome = StoreOutcome(store.recall_cue(
+        let outcome = Outcome(store.recall_cue(
             cue,
             self.cells.as_slice(),
             levels.as_mut_slice(),

@@ -14,7 +14,6 @@ mod plotting;
 mod service;
 mod session;
 mod slips;
-mod store_outcome;
 mod text;
 
 use crate::session::run_script;

@@ -1,8 +1,8 @@
 // The commands that a plotting store alone serves.
 use crate::desk::Desk;
 use crate::fault::{Fault, Reason};
+use crate::outcome::Outcome;
 use crate::slips::{Numbered, Slips, slip_of_another_store};
-use crate::store_outcome::StoreOutcome;
 use crate::text::List;
 use codes::code::Code;
 use cues::{Plotting, Slip, StoreRefusal};
@@ -43,7 +43,7 @@ pub fn serve_plot<C: Code + Drop>(
         Plot::OtherSlip(cue) => give(store, slips, given, slip_of_another_store(cue), answer),
         Plot::LetGo(number) => let_go(store, slips, number, answer),
         Plot::Wipe(cue) => {
-            let outcome = StoreOutcome(store.wipe(cue, desk.cells.as_mut_slice()));
+            let outcome = Outcome(store.wipe(cue, desk.cells.as_mut_slice()));
             writeln!(answer, "{outcome}")?;
             Ok(())
         }
@@ -65,7 +65,7 @@ fn record<C: Code + Drop>(
         desk.cells.as_mut_slice(),
         memory.as_mut_slice(),
     );
-    let outcome = StoreOutcome(recorded);
+    let outcome = Outcome(recorded);
     let after = List(memory.as_slice());
     writeln!(answer, "{outcome}; memory {after}")?;
     Ok(())
@@ -88,7 +88,7 @@ fn record_by_slip<C: Code + Drop>(
         desk.cells.as_mut_slice(),
         memory.as_mut_slice(),
     );
-    let outcome = StoreOutcome(recorded);
+    let outcome = Outcome(recorded);
     let after = List(memory.as_slice());
     writeln!(answer, "{outcome}; memory {after}")?;
     Ok(())
@@ -110,7 +110,7 @@ fn give<C: Code + Drop>(
             writeln!(answer, "slip {number}")?;
         }
         Err(why) => {
-            let outcome = StoreOutcome(Err(why));
+            let outcome = Outcome(Err(why));
             writeln!(answer, "{outcome}")?;
         }
     }
