@@ -1,59 +1,32 @@
--- A list cut at the first c, place by place.
-use Rattle.std.proofs.Common.{◌≡◌, ℕ, ◌+◌, ◌<◌, Bool, true, false, cond, eqb, List, [], ◌∷◌, length, take, drop, unwrap_or, nat_lt, not, IfSome, Some, None, Option, sym, refl, ap, ◌∙◌, subst, arith, Bor}
-use Rattle.std.proofs.lemmas.List.{take_all}
+-- A list cut at the first c.
+use Rattle.std.proofs.Common.{◌≡◌, ℕ, ◌+◌, ◌<◌, Bool, true, false, cond, eqb, List, [], ◌∷◌, length, take, drop, nat_lt, IfSome, Some, None, Option, sym, refl, ap, ◌∙◌, subst, arith, Bor}
 use Rattle.std.proofs.lemmas.Grind.{common_steps}
 use Rattle.std.specs.List.{position, position_or_len}
 use Rattle.std.specs.Option.{option_map}
 use Rattle.console.specs.declared.text.Pieces.{Pieces}
 use Rattle.console.specs.Text.{before, after, longer, pieces, to_come, pieces_left}
 
--- the place of the first c
-abbrev pub place : ℕ → List ℕ → Option ℕ
-place c xs = position (λ x. eqb x c) xs
+-- the place of the first c, or the length
+abbrev first : ℕ → List ℕ → ℕ
+first c xs = position_or_len (λ x. eqb x c) xs
 
--- one place on
-abbrev on : Option ℕ → Option ℕ
-on o = option_map (λ i. i + 1) o
+before_first : (c : ℕ) (xs : List ℕ) → take (first c xs) xs ≡ before c xs
+before_first c [] = refl
+before_first c (x ∷ xs) =
+    let more : take (1 + first c xs) (x ∷ xs) ≡ x ∷ take (first c xs) xs = grind (arith, common_steps) in
+    grind (arith, common_steps, more, before_first c xs)
 
-place_cons : (c x : ℕ) (xs : List ℕ) → place c (x ∷ xs) ≡ cond (eqb x c) (Some 0) (on (place c xs))
-place_cons c x xs = at (eqb x c) (position_or_len (λ x. eqb x c) xs)
-  where
-    at : (b : Bool) (n : ℕ) → cond (nat_lt (cond (not b) (1 + n) 0) (length (x ∷ xs))) (Some (cond (not b) (1 + n) 0)) None ≡ cond b (Some 0) (on (cond (nat_lt n (length xs)) (Some n) None))
-    at true n = grind (arith, common_steps)
-    at false n = grind (arith, common_steps)
+after_first : (c : ℕ) (xs : List ℕ) → cond (nat_lt (first c xs) (length xs)) (Some (drop (first c xs + 1) xs)) None ≡ after c xs
+after_first c [] = refl
+after_first c (x ∷ xs) = grind (arith, common_steps, after_first c xs)
 
-pub before_place : (c : ℕ) (xs : List ℕ) → take (unwrap_or (place c xs) (length xs)) xs ≡ before c xs
-before_place c [] = refl
-before_place c (x ∷ xs) = rw (place_cons c x xs) (at (eqb x c) (place c xs) (before_place c xs))
-  where
-    at : (b : Bool) (o : Option ℕ) → take (unwrap_or o (length xs)) xs ≡ before c xs → take (unwrap_or (cond b (Some 0) (on o)) (length (x ∷ xs))) (x ∷ xs) ≡ cond b [] (x ∷ before c xs)
-    at true o e = refl
-    at false None e = grind (arith, common_steps)
-    at false (Some i) e = grind (arith, common_steps)
+-- the place where `cut` finds c, or the whole list where it finds none
+module _ (c : ℕ) (xs : List ℕ) (o : Option ℕ) (found : o ≡ position (λ x. eqb x c) xs) where
+  pub cut_at : (i : ℕ) → o ≡ Some i → (take i xs ≡ before c xs) × (Some (drop (i + 1) xs) ≡ after c xs)
+  cut_at i is = (grind (arith, common_steps, before_first c xs), grind (arith, common_steps, after_first c xs))
 
-pub after_place : (c : ℕ) (xs : List ℕ) → option_map (λ i. drop (i + 1) xs) (place c xs) ≡ after c xs
-after_place c [] = refl
-after_place c (x ∷ xs) = rw (place_cons c x xs) (at (eqb x c) (place c xs) (after_place c xs))
-  where
-    at : (b : Bool) (o : Option ℕ) → option_map (λ i. drop (i + 1) xs) o ≡ after c xs → option_map (λ i. drop (i + 1) (x ∷ xs)) (cond b (Some 0) (on o)) ≡ cond b (Some xs) (after c xs)
-    at true o e = grind (arith, common_steps)
-    at false None e = e
-    at false (Some i) e = grind (arith, common_steps)
-
--- what `cut` does where it finds c, and where it doesn't
-pub cut_found : (c : ℕ) (xs : List ℕ) (o : Option ℕ) (i : ℕ) → o ≡ place c xs → o ≡ Some i → (take i xs ≡ before c xs) × (Some (drop (i + 1) xs) ≡ after c xs)
-cut_found c xs o i e is =
-    let at : Some i ≡ place c xs = sym is ∙ e in (
-      ap (λ o. take (unwrap_or o (length xs)) xs) at ∙ before_place c xs,
-      ap (option_map (λ i. drop (i + 1) xs)) at ∙ after_place c xs,
-    )
-
-pub cut_whole : (c : ℕ) (xs : List ℕ) (o : Option ℕ) → o ≡ place c xs → o ≡ None → (xs ≡ before c xs) × (None ≡ after c xs)
-cut_whole c xs o e is =
-    let at : None ≡ place c xs = sym is ∙ e in (
-      sym (take_all (length xs) xs (omega arith)) ∙ ap (λ o. take (unwrap_or o (length xs)) xs) at ∙ before_place c xs,
-      ap (option_map (λ i. drop (i + 1) xs)) at ∙ after_place c xs,
-    )
+  pub cut_nowhere : o ≡ None → (xs ≡ before c xs) × (None ≡ after c xs)
+  cut_nowhere is = (grind (arith, common_steps, before_first c xs), grind (arith, common_steps, after_first c xs))
 
 -- the pieces of a text are what stands before the first c, and then the pieces of what stands after it
 pub pieces_cut : (c : ℕ) (xs : List ℕ) → pieces c xs ≡ before c xs ∷ elim (after c xs) [ None ↦ [] | Some ys ↦ pieces c ys ]
@@ -76,15 +49,11 @@ next_piece p rest piece o is at left =
 
 -- what is left after a cut is shorter
 pub after_shorter : (c : ℕ) (xs : List ℕ) → IfSome (after c xs) (λ ys. length ys < length xs)
-after_shorter c [] = tt
-after_shorter c (x ∷ xs) = elim (eqb x c) as (λ b. IfSome (cond b (Some xs) (after c xs)) (λ ys. length ys < length (x ∷ xs))) [
-  | true ↦ omega arith
-  | false ↦ weaker (after c xs) (after_shorter c xs)
-]
+after_shorter c xs = rw (← after_first c xs) (at (nat_lt (first c xs) (length xs)) refl)
   where
-    weaker : (o : Option (List ℕ)) → IfSome o (λ ys. length ys < length xs) → IfSome o (λ ys. length ys < length (x ∷ xs))
-    weaker None h = tt
-    weaker (Some ys) h = omega (arith, h)
+    at : (b : Bool) → nat_lt (first c xs) (length xs) ≡ b → IfSome (cond b (Some (drop (first c xs + 1) xs)) None) (λ ys. length ys < length xs)
+    at true e = grind (arith, common_steps)
+    at false e = tt
 
 pub pieces_fewer : (c : ℕ) (xs : List ℕ) (o : Option (Bor (List ℕ))) → option_map (λ x. x.now) o ≡ after c xs → pieces_left o < length xs + 1
 pieces_fewer c xs None e = omega arith

@@ -59,6 +59,7 @@ impl<'a> Iterator for Pieces<'a> {
 
     ghost next_gives = { λ s r t. NextPiece s r t };
 
+    #[tactic(auto, using(crate::proofs::Cutting::pieces_fewer))]
     fn next(&mut self) -> Option<&'a [u8]> {
         let rest = self.rest?;
         let (piece, after) = cut(rest, self.separator);
@@ -79,6 +80,7 @@ fn cut(bytes: &[u8], separator: u8) -> (&[u8], Option<&[u8]>)
 }
 
 /// The number that decimal digits write, if it is not too large.
+#[tactic(auto, using(crate::proofs::Reading::number_is, crate::proofs::Reading::read_other, crate::proofs::Reading::read_more, crate::proofs::Reading::read_large))]
 pub fn parse_number(word: &[u8]) -> Option<usize>
     ensures { result ≡ number_of word.now }
 {
@@ -141,6 +143,7 @@ impl Run {
 }
 
 /// The bytes that the words of a list stand for.
+#[tactic(auto, using(crate::proofs::Reading::list_more))]
 pub fn parse_list(heap: Global, words: Pieces) -> Result<Vec<u8>, Fault>
     ensures { IfOk result (λ bytes. list_on [] (to_come words.entry) ≡ Some bytes.items) }
 {
