@@ -48,20 +48,41 @@ impl Command {
             b"show" => Command::Perform(Call::Show, parse_list(heap, words)?),
             b"make-repetition" => Command::Make(Making::Repetition(only_number(words)?)),
             b"make-parity" => Command::Make(Making::Parity(only_number(words)?)),
-            b"make-plotkin" => Command::Make(two_numbers(words, Making::Plotkin)?),
-            b"make-sum" => Command::Make(two_numbers(words, Making::Sum)?),
-            b"make-puncture" => Command::Make(two_numbers(words, Making::Puncture)?),
-            b"make-shorten" => Command::Make(two_numbers(words, Making::Shorten)?),
-            b"store" => two_numbers(words, Command::Store)?,
+            b"make-plotkin" => Command::Make(Making::Plotkin(
+                next_number(&mut words)?,
+                only_number(words)?,
+            )),
+            b"make-sum" => Command::Make(Making::Sum(
+                next_number(&mut words)?,
+                only_number(words)?,
+            )),
+            b"make-puncture" => Command::Make(Making::Puncture(
+                next_number(&mut words)?,
+                only_number(words)?,
+            )),
+            b"make-shorten" => Command::Make(Making::Shorten(
+                next_number(&mut words)?,
+                only_number(words)?,
+            )),
+            b"store" => Command::Store(next_number(&mut words)?, only_number(words)?),
             b"cells" => Command::Serve(parse_cells(heap, words)?),
-            b"damage" => Command::Serve(number_and_byte(words, Common::Damage)?),
+            b"damage" => Command::Serve(Common::Damage(
+                next_number(&mut words)?,
+                only_byte(words)?,
+            )),
             b"memory" => Command::Serve(Common::Memory(filled(words)?)),
             b"levels" => Command::Serve(Common::Levels(filled(words)?)),
             b"touch-up" => Command::Serve(Common::TouchUp(only_number(words)?)),
             b"recall" => Command::Serve(Common::Recall(only_number(words)?)),
             b"tally" => without_words(words, Command::Serve(Common::Tally))?,
-            b"record" => Command::Plot(number_and_list(heap, words, Plot::Record)?),
-            b"record-by-slip" => Command::Plot(number_and_list(heap, words, Plot::RecordBySlip)?),
+            b"record" => Command::Plot(Plot::Record(
+                next_number(&mut words)?,
+                parse_list(heap, words)?,
+            )),
+            b"record-by-slip" => Command::Plot(Plot::RecordBySlip(
+                next_number(&mut words)?,
+                parse_list(heap, words)?,
+            )),
             b"hold" => Command::Plot(Plot::Hold(only_number(words)?)),
             b"other-slip" => Command::Plot(Plot::OtherSlip(only_number(words)?)),
             b"let-go" => Command::Plot(Plot::LetGo(only_number(words)?)),
@@ -82,47 +103,13 @@ fn parse_cells(heap: Global, words: Pieces) -> Result<Common, Fault> {
 }
 
 /// So many bytes, at most as many as a list may have.
-fn filled(words: Pieces) -> Result<Filled, Reason> {
-    let filled = number_and_byte(words, |count, byte| Filled { count, byte })?;
-    if filled.count > LONGEST_LIST {
+fn filled(mut words: Pieces) -> Result<Filled, Reason> {
+    let count = next_number(&mut words)?;
+    let byte = only_byte(words)?;
+    if count > LONGEST_LIST {
         return Err(Reason::WrongArguments);
     }
-    Ok(filled)
-}
-
-/// What is made of the two words that are left, a number and a byte.
-fn number_and_byte<T: Drop, F: FnOnce(usize, u8) -> T>(
-    mut words: Pieces,
-    make: F,
-) -> Result<T, Reason>
-    requires { F.IsAlwaysCallable make }
-{
-    let number = next_number(&mut words)?;
-    let byte = parse_byte(only_word(words)?).ok_or(Reason::WrongArguments)?;
-    Ok(make(number, byte))
-}
-
-/// What is made of the two words that are left, two numbers.
-fn two_numbers<T: Drop, F: FnOnce(usize, usize) -> T>(
-    mut words: Pieces,
-    make: F,
-) -> Result<T, Reason>
-    requires { F.IsAlwaysCallable make }
-{
-    let first = next_number(&mut words)?;
-    Ok(make(first, only_number(words)?))
-}
-
-/// What is made of the words that are left, a number and a list.
-fn number_and_list<T: Drop, F: FnOnce(usize, Vec<u8>) -> T>(
-    heap: Global,
-    mut words: Pieces,
-    make: F,
-) -> Result<T, Fault>
-    requires { F.IsAlwaysCallable make }
-{
-    let number = next_number(&mut words)?;
-    Ok(make(number, parse_list(heap, words)?))
+    Ok(Filled { count, byte })
 }
 
 /// The next word, as a number.
@@ -134,6 +121,11 @@ fn next_number(words: &mut Pieces) -> Result<usize, Reason> {
 /// The one word that is left, as a number.
 fn only_number(words: Pieces) -> Result<usize, Reason> {
     parse_number(only_word(words)?).ok_or(Reason::WrongArguments)
+}
+
+/// The one word that is left, as a byte.
+fn only_byte(words: Pieces) -> Result<u8, Reason> {
+    parse_byte(only_word(words)?).ok_or(Reason::WrongArguments)
 }
 
 /// The one word that is left.
