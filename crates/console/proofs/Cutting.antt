@@ -1,44 +1,32 @@
--- A list cut at the first c, place by place.
-use Rattle.std.proofs.Common.{◌≡◌, ℕ, ◌+◌, ◌<◌, ◌≤◌, Bool, true, false, cond, eqb, List, [], ◌∷◌, ◌++◌, length, get_or, take, drop, IfSome, Some, None, Option, sym, refl, ap, ◌∙◌, subst, append_assoc, append-nil, arith, Bor}
-use Rattle.std.proofs.lemmas.List.{at_drop_more, at_drop_all, take_more, take_all}
-use Rattle.std.proofs.lemmas.Bool.{eq-eqb, ne_eqb}
+-- A list cut at the first c.
+use Rattle.std.proofs.Common.{◌≡◌, ℕ, ◌+◌, ◌<◌, Bool, true, false, cond, eqb, List, [], ◌∷◌, length, take, drop, nat_lt, IfSome, Some, None, Option, sym, refl, ap, ◌∙◌, subst, arith, Bor}
+use Rattle.std.proofs.lemmas.Grind.{common_steps}
+use Rattle.std.specs.List.{position, position_or_len}
 use Rattle.std.specs.Option.{option_map}
 use Rattle.console.specs.declared.text.Pieces.{Pieces}
 use Rattle.console.specs.Text.{before, after, longer, pieces, to_come, pieces_left}
 
-module _ (c : ℕ) (xs : List ℕ) (i : ℕ) where
-  -- the byte at i is not c
-  pub before_more : i < length xs → (get_or xs i 0 ≡ c → ⊥) → take i xs ++ before c (drop i xs) ≡ before c xs → take (i + 1) xs ++ before c (drop (i + 1) xs) ≡ before c xs
-  before_more lt ne inv =
-      let step : before c (drop i xs) ≡ cond (eqb (get_or xs i 0) c) [] (get_or xs i 0 ∷ before c (drop (i + 1) xs)) = at_drop_more (before c) xs i 0 lt in
-      let other = ne_eqb (get_or xs i 0) c ne in
-      rw (take_more xs i 0 lt, append_assoc) (rw (step, other) at inv)
+-- the place of the first c, or the length
+abbrev first : ℕ → List ℕ → ℕ
+first c xs = position_or_len (λ x. eqb x c) xs
 
-  pub after_more : i < length xs → (get_or xs i 0 ≡ c → ⊥) → after c (drop i xs) ≡ after c xs → after c (drop (i + 1) xs) ≡ after c xs
-  after_more lt ne inv =
-      let step : after c (drop i xs) ≡ cond (eqb (get_or xs i 0) c) (Some (drop (i + 1) xs)) (after c (drop (i + 1) xs)) = at_drop_more (after c) xs i 0 lt in
-      let other = ne_eqb (get_or xs i 0) c ne in
-      rw (step, other) at inv
+before_first : (c : ℕ) (xs : List ℕ) → take (first c xs) xs ≡ before c xs
+before_first c [] = refl
+before_first c (x ∷ xs) =
+    let more : take (1 + first c xs) (x ∷ xs) ≡ x ∷ take (first c xs) xs = grind (arith, common_steps) in
+    grind (arith, common_steps, more, before_first c xs)
 
-  -- the byte at i is c
-  pub before_found : i < length xs → get_or xs i 0 ≡ c → take i xs ++ before c (drop i xs) ≡ before c xs → take i xs ≡ before c xs
-  before_found lt eq inv =
-      let step : before c (drop i xs) ≡ cond (eqb (get_or xs i 0) c) [] (get_or xs i 0 ∷ before c (drop (i + 1) xs)) = at_drop_more (before c) xs i 0 lt in
-      let same = eq-eqb (get_or xs i 0) c eq in
-      rw (step, same, append-nil) at inv
+after_first : (c : ℕ) (xs : List ℕ) → cond (nat_lt (first c xs) (length xs)) (Some (drop (first c xs + 1) xs)) None ≡ after c xs
+after_first c [] = refl
+after_first c (x ∷ xs) = grind (arith, common_steps, after_first c xs)
 
-  pub after_found : i < length xs → get_or xs i 0 ≡ c → after c (drop i xs) ≡ after c xs → Some (drop (i + 1) xs) ≡ after c xs
-  after_found lt eq inv =
-      let step : after c (drop i xs) ≡ cond (eqb (get_or xs i 0) c) (Some (drop (i + 1) xs)) (after c (drop (i + 1) xs)) = at_drop_more (after c) xs i 0 lt in
-      let same = eq-eqb (get_or xs i 0) c eq in
-      rw (step, same) at inv
+-- the place where `cut` finds c, or the whole list where it finds none
+module _ (c : ℕ) (xs : List ℕ) (o : Option ℕ) (found : o ≡ position (λ x. eqb x c) xs) where
+  pub cut_at : (i : ℕ) → o ≡ Some i → (take i xs ≡ before c xs) × (Some (drop (i + 1) xs) ≡ after c xs)
+  cut_at i is = (grind (arith, common_steps, before_first c xs), grind (arith, common_steps, after_first c xs))
 
-  -- no byte is c
-  pub before_end : length xs ≤ i → take i xs ++ before c (drop i xs) ≡ before c xs → xs ≡ before c xs
-  before_end le inv = rw (at_drop_all (before c) xs i le, append-nil, take_all i xs le) at inv
-
-  pub after_end : length xs ≤ i → after c (drop i xs) ≡ after c xs → None ≡ after c xs
-  after_end le inv = rw (at_drop_all (after c) xs i le) at inv
+  pub cut_nowhere : o ≡ None → (xs ≡ before c xs) × (None ≡ after c xs)
+  cut_nowhere is = (grind (arith, common_steps, before_first c xs), grind (arith, common_steps, after_first c xs))
 
 -- the pieces of a text are what stands before the first c, and then the pieces of what stands after it
 pub pieces_cut : (c : ℕ) (xs : List ℕ) → pieces c xs ≡ before c xs ∷ elim (after c xs) [ None ↦ [] | Some ys ↦ pieces c ys ]
@@ -61,15 +49,11 @@ next_piece p rest piece o is at left =
 
 -- what is left after a cut is shorter
 pub after_shorter : (c : ℕ) (xs : List ℕ) → IfSome (after c xs) (λ ys. length ys < length xs)
-after_shorter c [] = tt
-after_shorter c (x ∷ xs) = elim (eqb x c) as (λ b. IfSome (cond b (Some xs) (after c xs)) (λ ys. length ys < length (x ∷ xs))) [
-  | true ↦ omega arith
-  | false ↦ weaker (after c xs) (after_shorter c xs)
-]
+after_shorter c xs = rw (← after_first c xs) (at (nat_lt (first c xs) (length xs)) refl)
   where
-    weaker : (o : Option (List ℕ)) → IfSome o (λ ys. length ys < length xs) → IfSome o (λ ys. length ys < length (x ∷ xs))
-    weaker None h = tt
-    weaker (Some ys) h = omega (arith, h)
+    at : (b : Bool) → nat_lt (first c xs) (length xs) ≡ b → IfSome (cond b (Some (drop (first c xs + 1) xs)) None) (λ ys. length ys < length xs)
+    at true e = grind (arith, common_steps)
+    at false e = tt
 
 pub pieces_fewer : (c : ℕ) (xs : List ℕ) (o : Option (Bor (List ℕ))) → option_map (λ x. x.now) o ≡ after c xs → pieces_left o < length xs + 1
 pieces_fewer c xs None e = omega arith

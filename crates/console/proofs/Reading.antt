@@ -1,7 +1,7 @@
 -- Digits, and the words of a list, read one after the other.
-use Rattle.std.proofs.Common.{◌≡◌, ℕ, ◌+◌, ◌-◌, ◌*◌, ◌<◌, ◌≤◌, cond, leb, List, [], ◌∷◌, ◌++◌, length, get_or, take, drop, replicate, Some, None, Option, sym, refl, ◌∙◌, arith}
+use Rattle.std.proofs.Common.{◌≡◌, ℕ, ◌+◌, ◌-◌, ◌*◌, ◌<◌, ◌≤◌, true, false, cond, leb, List, [], ◌∷◌, ◌++◌, length, get_or, take, drop, replicate, Some, None, Option, sym, refl, ◌∙◌, arith}
 use Rattle.std.proofs.lemmas.List.{at_drop_more, take_all}
-use Rattle.std.proofs.lemmas.Bool.{le-leb, lt-leb, and_right}
+use Rattle.std.proofs.lemmas.Bool.{le-leb, lt-leb}
 use Rattle.console.specs.declared.text.Run.{Run}
 use Rattle.console.specs.Text.{digit, read_on, number_of, run_of, list_on}
 
@@ -16,18 +16,17 @@ module _ (v : ℕ) (xs : List ℕ) (i : ℕ) (within : i < length xs) where
   steps : read_on v (drop i xs) ≡ cond (digit (get_or xs i 0)) (cond (leb next 1000000000) (read_on next (drop (i + 1) xs)) None) None
   steps = at_drop_more (read_on v) xs i 0 within
 
-  pub read_below : get_or xs i 0 < 48 → read_on v (drop i xs) ≡ None
-  read_below low = steps ∙ rw (lt-leb _ _ low)
+  -- the byte at i is no digit
+  pub read_other : digit (get_or xs i 0) ≡ false → read_on v (drop i xs) ≡ None
+  read_other other = steps ∙ rw other
 
-  pub read_above : 57 < get_or xs i 0 → read_on v (drop i xs) ≡ None
-  read_above high = steps ∙ rw (and_right _ _ (lt-leb _ _ high))
-
-  module _ (low : 48 ≤ get_or xs i 0) (high : get_or xs i 0 ≤ 57) (d : ℕ) (is : d ≡ get_or xs i 0 - 48) where
+  -- the byte at i is a digit
+  module _ (is_digit : digit (get_or xs i 0) ≡ true) (d : ℕ) (is : d ≡ get_or xs i 0 - 48) where
     pub read_more : v * 10 + d ≤ 1000000000 → read_on v (drop i xs) ≡ read_on (v * 10 + d) (drop (i + 1) xs)
-    read_more small = rw is (steps ∙ rw (le-leb _ _ low, le-leb _ _ high, le-leb next 1000000000 (omega (arith, small, is))))
+    read_more small = rw is (steps ∙ rw (is_digit, le-leb next 1000000000 (omega (arith, small, is))))
 
     pub read_large : 1000000000 < v * 10 + d → read_on v (drop i xs) ≡ None
-    read_large large = steps ∙ rw (le-leb _ _ low, le-leb _ _ high, lt-leb next 1000000000 (omega (arith, large, is)))
+    read_large large = steps ∙ rw (is_digit, lt-leb next 1000000000 (omega (arith, large, is)))
 
 module _ (bytes more w : List ℕ) (words ws : List (List ℕ)) (run : Run) (n m : ℕ) (list : Option (List ℕ)) where
   -- a word more of a list, whose bytes are grown from m to n and its run

@@ -1,6 +1,6 @@
 // What a script works with besides the store itself: the cells, and the bytes that each call is handed.
 use crate::fault::{Fault, Reason};
-use crate::store_outcome::StoreOutcome;
+use crate::outcome::Outcome;
 use crate::text::List;
 use codes::code::Code;
 use cues::{Store, StoreRefusal};
@@ -110,7 +110,7 @@ impl Desk {
                 write!(answer, "changed {changed}, beyond reach {beyond}")?;
             }
             Err(why) => {
-                let outcome = StoreOutcome(Err(why));
+                let outcome = Outcome(Err(why));
                 write!(answer, "{outcome}")?;
             }
         }
@@ -128,7 +128,7 @@ impl Desk {
     ) -> Result<(), Fault> {
         let mut memory = self.memory.bytes(heap)?;
         let mut levels = self.levels.bytes(heap)?;
-        let outcome = StoreOutcome(store.recall(
+        let outcome = Outcome(store.recall(
             cue,
             self.cells.as_slice(),
             levels.as_mut_slice(),
@@ -150,7 +150,7 @@ impl Desk {
         requires { F.IsAlwaysCallable call }
     {
         let mut memory = self.memory.bytes(heap)?;
-        let outcome = StoreOutcome(call(self.cells.as_mut_slice(), memory.as_mut_slice()));
+        let outcome = Outcome(call(self.cells.as_mut_slice(), memory.as_mut_slice()));
         let after = List(memory.as_slice());
         writeln!(answer, "{outcome}; memory {after}")?;
         Ok(())

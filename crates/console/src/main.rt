@@ -13,7 +13,6 @@ mod outcome;
 mod plotting;
 mod session;
 mod slips;
-mod store_outcome;
 mod text;
 
 use crate::session::run_script;

@@ -27,36 +27,31 @@ pub enum Making {
 
 impl Making {
     /// Makes the code, and writes its numbers or the refusal.
-    pub fn make(&self, answer: &mut Vec<u8>) -> io::Result<()> {
+    pub fn make(self, answer: &mut Vec<u8>) -> io::Result<()> {
         match self {
-            Making::Repetition(n) => write_making(answer, Repetition::<Two>::new(*n)),
-            Making::Parity(n) => write_making(answer, Parity::<Two>::new(*n)),
-            Making::Plotkin(a, b) => write_making(answer, plotkin_of(*a, *b)),
-            Making::Sum(a, b) => write_making(answer, sum_of(*a, *b)),
-            Making::Puncture(place, n) => write_making(answer, punctured(*place, *n)),
-            Making::Shorten(place, n) => write_making(answer, shortened(*place, *n)),
+            Making::Repetition(n) => write_making(answer, Repetition::<Two>::new(n)),
+            Making::Parity(n) => write_making(answer, Parity::<Two>::new(n)),
+            Making::Plotkin(a, b) => write_making(
+                answer,
+                repetitions(a, b).and_then(|(left, right)| Plotkin::new(left, right)),
+            ),
+            Making::Sum(a, b) => write_making(
+                answer,
+                repetitions(a, b).and_then(|(left, right)| DirectSum::new(left, right)),
+            ),
+            Making::Puncture(place, n) => write_making(
+                answer,
+                Repetition::<Two>::new(n).and_then(|code| Puncture::new(code, place)),
+            ),
+            Making::Shorten(place, n) => write_making(
+                answer,
+                Parity::<Two>::new(n).and_then(|code| Shorten::new(code, place)),
+            ),
         }
     }
 }
 
-fn plotkin_of(
-    a: usize,
-    b: usize,
-) -> Result<Plotkin<Repetition<Two>, Repetition<Two>>, MakingRefusal> {
-    Plotkin::new(Repetition::new(a)?, Repetition::new(b)?)
-}
-
-fn sum_of(
-    a: usize,
-    b: usize,
-) -> Result<DirectSum<Repetition<Two>, Repetition<Two>>, MakingRefusal> {
-    DirectSum::new(Repetition::new(a)?, Repetition::new(b)?)
-}
-
-fn punctured(place: usize, n: usize) -> Result<Puncture<Repetition<Two>>, MakingRefusal> {
-    Puncture::new(Repetition::new(n)?, place)
-}
-
-fn shortened(place: usize, n: usize) -> Result<Shorten<Parity<Two>>, MakingRefusal> {
-    Shorten::new(Parity::new(n)?, place)
+/// The two parts of a join.
+fn repetitions(a: usize, b: usize) -> Result<(Repetition<Two>, Repetition<Two>), MakingRefusal> {
+    Ok((Repetition::new(a)?, Repetition::new(b)?))
 }

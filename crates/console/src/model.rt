@@ -1,4 +1,5 @@
 // The models: codes that a script can choose by name.
+use crate::fault::Reason;
 use codes::code::{Code, Showing};
 use codes::refusals::Refusal;
 use std::fmt;
@@ -22,6 +23,7 @@ pub enum Name {
 }
 
 impl Name {
+    /// No derive lists the variants of an enum.
     const ALL: [Name; 13] = [
         Name::Rep5Three,
         Name::Parity3Three,
@@ -55,14 +57,16 @@ impl Name {
             Name::Tower => "tower",
         }
     }
+}
 
-    pub fn parse(word: &[u8]) -> Option<Name> {
-        for name in Name::ALL {
-            if word == name.as_str().as_bytes() {
-                return Some(name);
-            }
-        }
-        None
+/// The name that a word is.
+impl TryFrom<&[u8]> for Name {
+    type Error = Reason;
+
+    fn try_from(word: &[u8]) -> Result<Name, Reason> {
+        let mut names = Name::ALL.into_iter();
+        let found = names.find(|name| name.as_str().as_bytes() == word);
+        found.ok_or(Reason::WrongArguments)
     }
 }
 
@@ -85,23 +89,20 @@ pub trait Model: Sized {
     fn show(&self, memory: &mut [u8]) -> Option<Result<(), Refusal>>;
 }
 
-/// A code that shows a pair.
-#[derive(Drop)]
-pub struct WithPair<C>(pub C);
-
-impl<C: Showing + Drop> Model for WithPair<C> {
+/// A code that shows a pair is a model as it is.
+impl<C: Showing + Drop> Model for C {
     type Code = C;
 
     fn code(&self) -> &C {
-        &self.0
+        self
     }
 
     fn into_code(self) -> C {
-        self.0
+        self
     }
 
     fn show(&self, memory: &mut [u8]) -> Option<Result<(), Refusal>> {
-        Some(self.0.show(memory))
+        Some(Showing::show(self, memory))
     }
 }
 

@@ -1,55 +1,27 @@
 // The codes of the models.
-use crate::model::{WithPair, WithoutPair};
+use crate::model::WithoutPair;
 use alphabets::{Four, Three, Two};
 use codes::refusals::MakingRefusal;
 use direct_sum::DirectSum;
 use hamming::Hamming;
 use hexacode::Hexacode;
 use parity::Parity;
-use piles::{FourPile, ReedMuller3, ReedMuller5, four_pile, reed_muller};
+use piles::{FourPile, four_pile};
 use plotkin::Plotkin;
 use puncture::Puncture;
 use repetition::Repetition;
 use shorten::Shorten;
 
-pub fn rep5_three() -> Result<WithPair<Repetition<Three>>, MakingRefusal> {
-    Ok(WithPair(Repetition::new(5)?))
+pub fn three_pile() -> Result<Plotkin<Parity<Three>, Repetition<Three>>, MakingRefusal> {
+    Plotkin::new(Parity::new(5)?, Repetition::new(5)?)
 }
 
-pub fn parity3_three() -> Result<WithPair<Parity<Three>>, MakingRefusal> {
-    Ok(WithPair(Parity::new(3)?))
+pub fn split() -> Result<DirectSum<Repetition<Two>, Repetition<Two>>, MakingRefusal> {
+    DirectSum::new(Repetition::new(1)?, Repetition::new(2)?)
 }
 
-pub fn hamming_model() -> Result<WithPair<Hamming>, MakingRefusal> {
-    Ok(WithPair(Hamming))
-}
-
-pub fn hexacode_model() -> Result<WithPair<Hexacode>, MakingRefusal> {
-    Ok(WithPair(Hexacode))
-}
-
-pub fn rm3() -> Result<WithPair<ReedMuller3>, MakingRefusal> {
-    Ok(WithPair(reed_muller::<ReedMuller3>()?))
-}
-
-pub fn mariner() -> Result<WithPair<ReedMuller5>, MakingRefusal> {
-    Ok(WithPair(reed_muller::<ReedMuller5>()?))
-}
-
-pub fn four_pile_model() -> Result<WithPair<FourPile>, MakingRefusal> {
-    Ok(WithPair(four_pile()?))
-}
-
-pub fn three_pile() -> Result<WithPair<Plotkin<Parity<Three>, Repetition<Three>>>, MakingRefusal> {
-    Ok(WithPair(Plotkin::new(Parity::new(5)?, Repetition::new(5)?)?))
-}
-
-pub fn split() -> Result<WithPair<DirectSum<Repetition<Two>, Repetition<Two>>>, MakingRefusal> {
-    Ok(WithPair(DirectSum::new(Repetition::new(1)?, Repetition::new(2)?)?))
-}
-
-pub fn rig() -> Result<WithPair<DirectSum<Hexacode, FourPile>>, MakingRefusal> {
-    Ok(WithPair(DirectSum::new(Hexacode, four_pile()?)?))
+pub fn rig() -> Result<DirectSum<Hexacode, FourPile>, MakingRefusal> {
+    DirectSum::new(Hexacode, four_pile()?)
 }
 
 pub fn short_hamming() -> Result<WithoutPair<Shorten<Hamming>>, MakingRefusal> {

@@ -2,7 +2,7 @@
 use crate::fault::{Fault, Reason};
 use crate::holder::AtPlotting;
 use crate::slips::{Numbered, slip_of_another_store};
-use crate::store_outcome::StoreOutcome;
+use crate::outcome::Outcome;
 use codes::code::Code;
 use cues::{Slip, StoreRefusal};
 use std::alloc::Global;
@@ -49,7 +49,7 @@ impl<C: Code + Drop> AtPlotting<C> {
             Plot::OtherSlip(cue) => self.give(slip_of_another_store(cue), answer),
             Plot::LetGo(number) => self.let_go(number, answer),
             Plot::Wipe(cue) => {
-                let outcome = StoreOutcome(self.store.wipe(cue, self.desk.cells.as_mut_slice()));
+                let outcome = Outcome(self.store.wipe(cue, self.desk.cells.as_mut_slice()));
                 writeln!(answer, "{outcome}")?;
                 Ok(())
             }
@@ -68,7 +68,7 @@ impl<C: Code + Drop> AtPlotting<C> {
                 writeln!(answer, "slip {number}")?;
             }
             Err(why) => {
-                let outcome = StoreOutcome(Err(why));
+                let outcome = Outcome(Err(why));
                 writeln!(answer, "{outcome}")?;
             }
         }

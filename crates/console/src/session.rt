@@ -6,18 +6,20 @@ use crate::desk::{Desk, Filled};
 use crate::fault::Fault;
 use crate::holder::{AtPlotting, AtStore, Chosen, Holder, NoModel, UsedUp};
 use crate::model::{Model, Name};
-use crate::models::{
-    four_pile_model, hamming_model, hexacode_model, mariner, parity3_three, punctured_hexacode,
-    rep5_three, rig, rm3, short_hamming, split, three_pile, tower,
-};
+use crate::models::{punctured_hexacode, rig, short_hamming, split, three_pile, tower};
 use crate::next::Next;
-use crate::outcome::{write_carriers, write_numbers, write_refused_making};
+use crate::outcome::{Carriers, Numbers, Outcome, Refused};
 use crate::slips::Slips;
-use crate::store_outcome::StoreOutcome;
 use crate::text::Pieces;
+use alphabets::Three;
 use codes::code::Code;
 use codes::refusals::MakingRefusal;
-use cues::{Plotting, StoreRefusal};
+use cues::Plotting;
+use hamming::Hamming;
+use hexacode::Hexacode;
+use parity::Parity;
+use piles::{ReedMuller3, ReedMuller5, four_pile, reed_muller};
+use repetition::Repetition;
 use std::alloc::{AllocError, Global};
 use std::io;
 use std::io::Write;
@@ -44,13 +46,13 @@ fn serve_named(
     ensures asked { AsksByLines result (pieces_left lines.old.rest) (pieces_left lines.new.rest) }
 {
     match name {
-        Name::Rep5Three => serve_model(rt, lines, name, given, rep5_three()),
-        Name::Parity3Three => serve_model(rt, lines, name, given, parity3_three()),
-        Name::Hamming => serve_model(rt, lines, name, given, hamming_model()),
-        Name::Hexacode => serve_model(rt, lines, name, given, hexacode_model()),
-        Name::Rm3 => serve_model(rt, lines, name, given, rm3()),
-        Name::Mariner => serve_model(rt, lines, name, given, mariner()),
-        Name::FourPile => serve_model(rt, lines, name, given, four_pile_model()),
+        Name::Rep5Three => serve_model(rt, lines, name, given, Repetition::<Three>::new(5)),
+        Name::Parity3Three => serve_model(rt, lines, name, given, Parity::<Three>::new(3)),
+        Name::Hamming => serve_model(rt, lines, name, given, Ok(Hamming)),
+        Name::Hexacode => serve_model(rt, lines, name, given, Ok(Hexacode)),
+        Name::Rm3 => serve_model(rt, lines, name, given, reed_muller::<ReedMuller3>()),
+        Name::Mariner => serve_model(rt, lines, name, given, reed_muller::<ReedMuller5>()),
+        Name::FourPile => serve_model(rt, lines, name, given, four_pile()),
         Name::ThreePile => serve_model(rt, lines, name, given, three_pile()),
         Name::Split => serve_model(rt, lines, name, given, split()),
         Name::Rig => serve_model(rt, lines, name, given, rig()),
@@ -74,7 +76,7 @@ fn serve_model<M: Model + Drop>(
     let model = match made {
         Ok(model) => model,
         Err(why) => {
-            print_refused_model(rt, why)?;
+            print_refusal(rt, why)?;
             return serve(rt, lines, &mut NoModel);
         }
     };
@@ -102,7 +104,7 @@ fn serve_store<C: Code + Drop>(
     let store = match Plotting::new(code, cues, levels) {
         Ok(store) => store,
         Err(why) => {
-            print_refused_store(rt, why)?;
+            print_refusal(rt, why)?;
             return serve(rt, lines, &mut UsedUp);
         }
     };
@@ -167,30 +169,14 @@ fn new_desk<C: Code + Drop>(
     })
 }
 
-/// Answers a line whose store is refused.
-fn print_refused_store(rt: &HostRuntime, why: StoreRefusal) -> io::Result<()> {
-    let mut answer = Vec::new(rt.alloc());
-    let outcome = StoreOutcome(Err(why));
-    writeln!(answer, "{outcome}")?;
-    rt.write_all(answer.as_slice())
-}
-
-/// Answers the line that chose a model.
+/// Answers a line that chose a model.
 fn print_model<C: Code>(rt: &HostRuntime, name: Name, code: &C) -> io::Result<()> {
-    let mut answer = Vec::new(rt.alloc());
-    write!(answer, "{name}: ")?;
-    write_numbers(&mut answer, code)?;
-    write_carriers(&mut answer, code)?;
-    writeln!(answer)?;
-    rt.write_all(answer.as_slice())
+    println!(rt; "{name}: {}, {}", Numbers(code), Carriers(code))
 }
 
-/// Answers a line that chose a model whose code is refused: no model is left.
-fn print_refused_model(rt: &HostRuntime, why: MakingRefusal) -> io::Result<()> {
-    let mut answer = Vec::new(rt.alloc());
-    write_refused_making(&mut answer, why)?;
-    writeln!(answer)?;
-    rt.write_all(answer.as_slice())
+/// Answers a line that chose a model or made a store, and is refused.
+fn print_refusal<R: Refused + Drop>(rt: &HostRuntime, why: R) -> io::Result<()> {
+    println!(rt; "{}", Outcome(Err(why)))
 }
 
 /// Carries out lines until one asks for something else than the next line; End at the end of the script.
@@ -198,6 +184,7 @@ fn serve<H: Holder>(rt: &HostRuntime, lines: &mut Pieces, holder: &mut H) -> io:
     ensures chosen { UsesLines (chosen result) (pieces_left lines.old.rest) (pieces_left lines.new.rest) }
     ensures asked { AsksByLines result (pieces_left lines.old.rest) (pieces_left lines.new.rest) }
 {
+    // No `for`: at a return from inside it nothing is known of the lines that are left.
     while let Some(line) = lines.next() {
         if is_skipped(line) {
             continue;
@@ -212,10 +199,7 @@ fn serve<H: Holder>(rt: &HostRuntime, lines: &mut Pieces, holder: &mut H) -> io:
 
 /// Whether a line is empty or a comment.
 fn is_skipped(line: &[u8]) -> bool {
-    match line {
-        [] | [b'#', ..] => true,
-        _ => false,
-    }
+    matches!(line, [] | [b'#', ..])
 }
 
 /// Prints the line and its answer, but for a line that chooses a model or makes a store: its answer is left to that.
@@ -229,6 +213,7 @@ fn answer_line<H: Holder>(rt: &HostRuntime, holder: &mut H, line: &[u8]) -> io::
             Next::Line
         }
         Err(Fault::Failed(error)) => return Err(error),
+        Err(Fault::OutOfMemory(error)) => return Err(error.into()),
     };
     rt.write_all(answer.as_slice())?;
     Ok(next)
@@ -236,8 +221,7 @@ fn answer_line<H: Holder>(rt: &HostRuntime, holder: &mut H, line: &[u8]) -> io::
 
 /// The line as it was read, to stand above its answer.
 fn echo(heap: Global, line: &[u8]) -> Result<Vec<u8>, AllocError> {
-    let mut answer = Vec::new(heap);
-    answer.extend_from_slice(b"> ")?;
+    let mut answer = Vec::from_slice(heap, b"> ")?;
     answer.extend_from_slice(line)?;
     answer.push(b'\n')?;
     Ok(answer)

@@ -59,6 +59,7 @@ impl<'a> Iterator for Pieces<'a> {
 
     ghost next_gives = { λ s r t. NextPiece s r t };
 
+    #[tactic(auto, using(crate::proofs::Cutting::pieces_fewer))]
     fn next(&mut self) -> Option<&'a [u8]> {
         let rest = self.rest?;
         let (piece, after) = cut(rest, self.separator);
@@ -72,15 +73,14 @@ fn cut(bytes: &[u8], separator: u8) -> (&[u8], Option<&[u8]>)
     ensures piece { result.0.now ≡ before separator bytes.now }
     ensures rest { option_map (λ x. x.now) result.1 ≡ after separator bytes.now }
 {
-    for (i, b) in bytes.iter().enumerate() {
-        if *b == separator {
-            return (&bytes[0..i], Some(&bytes[i + 1..]));
-        }
+    match bytes.iter().position(|b| *b == separator) {
+        Some(place) => (&bytes[..place], Some(&bytes[place + 1..])),
+        None => (bytes, None),
     }
-    (bytes, None)
 }
 
 /// The number that decimal digits write, if it is not too large.
+#[tactic(auto, using(crate::proofs::Reading::number_is, crate::proofs::Reading::read_other, crate::proofs::Reading::read_more, crate::proofs::Reading::read_large))]
 pub fn parse_number(word: &[u8]) -> Option<usize>
     ensures { result ≡ number_of word.now }
 {
@@ -89,7 +89,7 @@ pub fn parse_number(word: &[u8]) -> Option<usize>
     }
     let mut value = 0;
     for b in word {
-        if *b < b'0' || *b > b'9' {
+        if !b.is_ascii_digit() {
             return None;
         }
         value = value * 10 + usize::from(*b - b'0');
@@ -115,6 +115,15 @@ pub struct Run {
 }
 
 impl Run {
+    /// The run that equal bytes are, if there are any.
+    fn of(bytes: &[u8]) -> Option<Run> {
+        let byte = *bytes.first()?;
+        Some(Run {
+            count: bytes.len(),
+            byte,
+        })
+    }
+
     /// What a word of a list stands for: `B` for one byte, `N*B` for N bytes B.
     fn parse(word: &[u8]) -> Option<Run>
         ensures { result ≡ run_of word.now }
@@ -134,17 +143,16 @@ impl Run {
 }
 
 /// The bytes that the words of a list stand for.
+#[tactic(auto, using(crate::proofs::Reading::list_more))]
 pub fn parse_list(heap: Global, words: Pieces) -> Result<Vec<u8>, Fault>
     ensures { IfOk result (λ bytes. list_on [] (to_come words.entry) ≡ Some bytes.items) }
 {
     let mut bytes = Vec::new(heap);
     for word in words {
-        let Some(run) = Run::parse(word) else {
-            return Err(Fault::Cannot(Reason::WrongArguments));
-        };
+        let run = Run::parse(word).ok_or(Reason::WrongArguments)?;
         let len = bytes.len();
         if run.count > LONGEST_LIST - len {
-            return Err(Fault::Cannot(Reason::WrongArguments));
+            return Err(Reason::WrongArguments.into());
         }
         bytes.resize(len + run.count, run.byte)?;
     }
@@ -157,7 +165,7 @@ pub struct List<'a>(pub &'a [u8]);
 
 impl fmt::Display for List<'_> {
     fn fmt<W: fmt::Write>(&self, f: &mut fmt::Formatter<W>) -> fmt::Result {
-        let mut runs = Runs { rest: self.0 };
+        let mut runs = self.0.chunk_by(|a, b| a == b).filter_map(Run::of);
         let Some(first) = runs.next() else {
             return f.write_str("-");
         };
@@ -182,40 +190,4 @@ impl fmt::Display for Run {
         }
         Ok(())
     }
-}
-
-/// The runs of equal bytes, each as long as can be.
-#[derive(Drop)]
-struct Runs<'a> {
-    rest: &'a [u8],
-}
-
-impl<'a> Iterator for Runs<'a> {
-    type Item = Run;
-
-    ghost remaining = { λ s. at_most (length s.rest.now) };
-
-    fn next(&mut self) -> Option<Run> {
-        let [byte, others @ ..] = self.rest else {
-            return None;
-        };
-        let more = leading(others, *byte);
-        self.rest = &others[more..];
-        Some(Run {
-            count: more + 1,
-            byte: *byte,
-        })
-    }
-}
-
-/// How many bytes at the front are this byte.
-fn leading(bytes: &[u8], byte: u8) -> usize
-    ensures { result ≤ length bytes.now }
-{
-    for (i, b) in bytes.iter().enumerate() {
-        if *b != byte {
-            return i;
-        }
-    }
-    bytes.len()
 }

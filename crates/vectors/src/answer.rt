@@ -18,24 +18,28 @@ pub struct Answer {
 impl Answer {
     /// Sends a message.
     pub fn of_send<C: Code>(heap: Global, code: &C, message: &[u8]) -> Result<Answer, AllocError> {
-        let mut memory = working_memory(heap, code, message)?;
-        let outcome = code.send(memory.as_mut_slice());
-        memory.truncate(code.length());
-        Ok(Answer {
-            outcome,
-            word: memory,
-        })
+        Answer::of(heap, code, message, |memory| code.send(memory))
     }
 
     /// Mends a received word.
     pub fn of_mend<C: Code>(heap: Global, code: &C, received: &[u8]) -> Result<Answer, AllocError> {
-        let mut memory = working_memory(heap, code, received)?;
-        let outcome = code.mend(memory.as_mut_slice());
-        memory.truncate(code.length());
-        Ok(Answer {
-            outcome,
-            word: memory,
-        })
+        Answer::of(heap, code, received, |memory| code.mend(memory))
+    }
+
+    /// Makes a call of the code in as much memory as it works in, with the input in front and dirt behind it.
+    fn of<C: Code, F: FnOnce(&mut [u8]) -> Result<(), Refusal>>(
+        heap: Global,
+        code: &C,
+        input: &[u8],
+        call: F,
+    ) -> Result<Answer, AllocError>
+        requires { F.IsAlwaysCallable call }
+    {
+        let mut word = Vec::from_slice(heap, input)?;
+        word.resize(code.working_length(), DIRT)?;
+        let outcome = call(word.as_mut_slice());
+        word.truncate(code.length());
+        Ok(Answer { outcome, word })
     }
 
     /// The word that the call left.
@@ -58,11 +62,4 @@ impl fmt::Display for Answer {
             }
         }
     }
-}
-
-/// As much memory as the code works in, with the input in front and dirt behind it.
-fn working_memory<C: Code>(heap: Global, code: &C, input: &[u8]) -> Result<Vec<u8>, AllocError> {
-    let mut memory = Vec::from_slice(heap, input)?;
-    memory.resize(code.working_length(), DIRT)?;
-    Ok(memory)
 }

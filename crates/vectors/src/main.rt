@@ -15,12 +15,6 @@ use hamming::Hamming;
 use hexacode::Hexacode;
 use std::io;
 
-/// How many messages the hexacode has.
-const HEXACODE_MESSAGES: usize = 64;
-
-/// How many messages Hamming has.
-const HAMMING_MESSAGES: usize = 16;
-
 fn main(rt: HostRuntime) -> io::Result<()> {
     run(&rt)
 }
@@ -28,10 +22,10 @@ fn main(rt: HostRuntime) -> io::Result<()> {
 fn run(rt: &HostRuntime) -> io::Result<()> {
     let heap = rt.alloc();
     let mut out = Vec::new(heap);
-    write_words(&mut out, heap, "hexacode", &Hexacode, HEXACODE_MESSAGES)?;
-    write_weights(&mut out, heap, "hexacode", &Hexacode, HEXACODE_MESSAGES)?;
+    write_words(&mut out, heap, "hexacode", &Hexacode)?;
+    write_weights(&mut out, heap, "hexacode", &Hexacode)?;
     write_shapes(&mut out, heap)?;
-    write_words(&mut out, heap, "hamming", &Hamming, HAMMING_MESSAGES)?;
+    write_words(&mut out, heap, "hamming", &Hamming)?;
     write_mends(&mut out, heap)?;
     rt.write_all(out.as_slice())
 }

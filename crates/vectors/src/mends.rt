@@ -1,15 +1,13 @@
 // What Hamming mends: every received word with few marks.
 use crate::answer::Answer;
-use crate::symbols::{Symbols, count_up};
+use crate::symbols::{Symbols, each_counted};
 use alphabets::{MARK, Two};
+use codes::code::Code;
 use codes::tolls::count_marks;
 use hamming::Hamming;
-use std::alloc::Global;
+use std::alloc::{AllocError, Global};
 use std::io;
 use std::io::Write;
-
-/// How many places a word has.
-const LENGTH: usize = 7;
 
 /// In counting, a place is 0, 1 or a mark.
 const PLACE_STATES: u8 = 3;
@@ -17,34 +15,24 @@ const PLACE_STATES: u8 = 3;
 /// The digit that counts as a mark.
 const MARK_DIGIT: u8 = 2;
 
-/// How many received words there are, whatever their marks: 3 to the power 7.
-const RECEIVED_WORDS: usize = 2187;
-
 /// Received words with more marks are left out.
 const MOST_MARKS: usize = 2;
 
 /// Writes every received word with few marks, and what mend makes of it, in counting order.
 pub fn write_mends(out: &mut Vec<u8>, heap: Global) -> io::Result<()> {
-    let mut digits = [0; LENGTH];
-    for _ in 0..RECEIVED_WORDS {
-        let received = with_marks(digits);
-        if count_marks::<Two>(&received) <= MOST_MARKS {
-            write_mend(out, heap, &received)?;
+    each_counted(heap, Hamming.length(), PLACE_STATES, |digits| {
+        let received = with_marks(heap, digits)?;
+        if count_marks::<Two>(received.as_slice()) > MOST_MARKS {
+            return Ok(());
         }
-        count_up(&mut digits, PLACE_STATES);
-    }
-    Ok(())
+        write_mend(out, heap, received.as_slice())
+    })
 }
 
 /// The received word that these digits count.
-fn with_marks(digits: [u8; LENGTH]) -> [u8; LENGTH] {
-    let mut received = digits;
-    for i in 0..LENGTH {
-        if received[i] == MARK_DIGIT {
-            received[i] = MARK;
-        }
-    }
-    received
+fn with_marks(heap: Global, digits: &[u8]) -> Result<Vec<u8>, AllocError> {
+    let mark = |digit: &u8| if *digit == MARK_DIGIT { MARK } else { *digit };
+    digits.iter().map(mark).collect(heap)
 }
 
 fn write_mend(out: &mut Vec<u8>, heap: Global, received: &[u8]) -> io::Result<()> {

@@ -1,5 +1,6 @@
 // The shapes of the hexacode's words: each word comes from one of five by three kinds of steps, under which a word of
 // the code stays one.
+use crate::symbols::Symbols;
 use alphabets::Four;
 use codes::code::Code;
 use hexacode::Hexacode;
@@ -16,72 +17,59 @@ const OMEGA_SQUARED: u8 = 3;
 
 /// Two symbols that stand side by side.
 #[derive(Clone, Copy, PartialEq, Eq, PartialOrd, Ord)]
-struct Pair(u8, u8);
+struct Pair([u8; 2]);
 
 impl Pair {
     fn turned(self) -> Pair {
-        Pair(self.1, self.0)
+        let Pair([first, second]) = self;
+        Pair([second, first])
     }
 
     fn times(self, factor: u8) -> Pair {
-        Pair(
-            Four::multiply(factor, self.0),
-            Four::multiply(factor, self.1),
-        )
-    }
-}
-
-impl fmt::Display for Pair {
-    fn fmt<W: fmt::Write>(&self, f: &mut fmt::Formatter<W>) -> fmt::Result {
-        let Pair(first, second) = self;
-        write!(f, "{first}{second}")
+        Pair(self.0.map(|symbol| Four::multiply(factor, symbol)))
     }
 }
 
 /// Six symbols as three pairs.
 #[derive(Clone, Copy, PartialEq, Eq, PartialOrd, Ord)]
-struct Pairs(Pair, Pair, Pair);
+struct Pairs([Pair; 3]);
 
 /// The shapes, those with most images first.
 const SHAPES: [Pairs; 5] = [
-    Pairs(Pair(0, 1), Pair(0, 1), Pair(2, 3)),
-    Pairs(Pair(2, 3), Pair(2, 3), Pair(2, 3)),
-    Pairs(Pair(0, 0), Pair(1, 1), Pair(1, 1)),
-    Pairs(Pair(1, 1), Pair(2, 2), Pair(3, 3)),
-    Pairs(Pair(0, 0), Pair(0, 0), Pair(0, 0)),
+    Pairs([Pair([0, 1]), Pair([0, 1]), Pair([2, 3])]),
+    Pairs([Pair([2, 3]), Pair([2, 3]), Pair([2, 3])]),
+    Pairs([Pair([0, 0]), Pair([1, 1]), Pair([1, 1])]),
+    Pairs([Pair([1, 1]), Pair([2, 2]), Pair([3, 3])]),
+    Pairs([Pair([0, 0]), Pair([0, 0]), Pair([0, 0])]),
 ];
 
 impl Pairs {
     /// The pairs in each order.
     fn orders(self) -> [Pairs; 6] {
-        let Pairs(a, b, c) = self;
+        let Pairs([a, b, c]) = self;
         [
-            Pairs(a, b, c),
-            Pairs(a, c, b),
-            Pairs(b, a, c),
-            Pairs(b, c, a),
-            Pairs(c, a, b),
-            Pairs(c, b, a),
+            Pairs([a, b, c]),
+            Pairs([a, c, b]),
+            Pairs([b, a, c]),
+            Pairs([b, c, a]),
+            Pairs([c, a, b]),
+            Pairs([c, b, a]),
         ]
     }
 
     /// The pairs with none of them turned, and with two of them turned.
     fn turnings(self) -> [Pairs; 4] {
-        let Pairs(a, b, c) = self;
+        let Pairs([a, b, c]) = self;
         [
             self,
-            Pairs(a.turned(), b.turned(), c),
-            Pairs(a.turned(), b, c.turned()),
-            Pairs(a, b.turned(), c.turned()),
+            Pairs([a.turned(), b.turned(), c]),
+            Pairs([a.turned(), b, c.turned()]),
+            Pairs([a, b.turned(), c.turned()]),
         ]
     }
 
     fn times(self, factor: u8) -> Pairs {
-        Pairs(
-            self.0.times(factor),
-            self.1.times(factor),
-            self.2.times(factor),
-        )
+        Pairs(self.0.map(|pair| pair.times(factor)))
     }
 
     /// The pairs times each symbol but 0.
@@ -91,16 +79,15 @@ impl Pairs {
 
     /// Whether the code reads the six symbols as a word.
     fn is_word(self) -> bool {
-        let Pairs(a, b, c) = self;
-        let mut memory = [a.0, a.1, b.0, b.1, c.0, c.1];
-        Hexacode.read(&mut memory).is_ok()
+        let Pairs([Pair([a, b]), Pair([c, d]), Pair([e, f])]) = self;
+        Hexacode.read(&mut [a, b, c, d, e, f]).is_ok()
     }
 }
 
 impl fmt::Display for Pairs {
     fn fmt<W: fmt::Write>(&self, f: &mut fmt::Formatter<W>) -> fmt::Result {
-        let Pairs(a, b, c) = self;
-        write!(f, "{a} {b} {c}")
+        let Pairs([Pair(a), Pair(b), Pair(c)]) = self;
+        write!(f, "{} {} {}", Symbols(a), Symbols(b), Symbols(c))
     }
 }
 
@@ -108,12 +95,11 @@ impl fmt::Display for Pairs {
 pub fn write_shapes(out: &mut Vec<u8>, heap: Global) -> io::Result<()> {
     for shape in SHAPES {
         let images = images_of(heap, shape)?;
-        let words = words_among(heap, &images)?;
+        let words = images.iter().filter(|image| image.is_word()).count();
         writeln!(
             out,
-            "hexacode shape {shape}: {} images, {} words",
-            images.len(),
-            words.len()
+            "hexacode shape {shape}: {} images, {words} words",
+            images.len()
         )?;
     }
     Ok(())
@@ -130,15 +116,4 @@ fn images_of(heap: Global, shape: Pairs) -> Result<BTreeSet<Pairs>, AllocError> 
         }
     }
     Ok(images)
-}
-
-/// Those images that are words of the code.
-fn words_among(heap: Global, images: &BTreeSet<Pairs>) -> Result<BTreeSet<Pairs>, AllocError> {
-    let mut words = BTreeSet::new(heap);
-    for image in images {
-        if image.is_word() {
-            words.insert(*image)?;
-        }
-    }
-    Ok(words)
 }

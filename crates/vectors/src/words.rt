@@ -1,6 +1,6 @@
 // The words of a code: each of them, and how many there are of each weight.
 use crate::answer::Answer;
-use crate::symbols::{Symbols, count_up};
+use crate::symbols::{Symbols, each_counted};
 use alphabets::Alphabet;
 use codes::code::Code;
 use std::alloc::Global;
@@ -14,16 +14,12 @@ pub fn write_words<C: Code>(
     heap: Global,
     name: &str,
     code: &C,
-    messages: usize,
 ) -> io::Result<()> {
-    let mut message = vec![in heap; 0; code.dimension()]?;
-    for _ in 0..messages {
-        let sent = Symbols(message.as_slice());
-        let word = Answer::of_send(heap, code, message.as_slice())?;
-        writeln!(out, "{name} {sent} {word}")?;
-        count_up(message.as_mut_slice(), C::Symbols::order());
-    }
-    Ok(())
+    each_counted(heap, code.dimension(), C::Symbols::order(), |message| {
+        let sent = Symbols(message);
+        let word = Answer::of_send(heap, code, message)?;
+        writeln!(out, "{name} {sent} {word}")
+    })
 }
 
 /// Writes how many words have each weight, the lowest weight first.
@@ -32,16 +28,14 @@ pub fn write_weights<C: Code>(
     heap: Global,
     name: &str,
     code: &C,
-    messages: usize,
 ) -> io::Result<()> {
     let mut counts: BTreeMap<usize, usize> = BTreeMap::new(heap);
-    let mut message = vec![in heap; 0; code.dimension()]?;
-    for _ in 0..messages {
-        let word = Answer::of_send(heap, code, message.as_slice())?;
+    each_counted(heap, code.dimension(), C::Symbols::order(), |message| {
+        let word = Answer::of_send(heap, code, message)?;
         let count = counts.entry(weight(word.word()))?.or_insert(0);
         *count = count.saturating_add(1);
-        count_up(message.as_mut_slice(), C::Symbols::order());
-    }
+        Ok(())
+    })?;
     for (weight, count) in &counts {
         writeln!(out, "{name} weight {weight}: {count} words")?;
     }
@@ -50,11 +44,5 @@ pub fn write_weights<C: Code>(
 
 /// How many places of a word are not 0.
 fn weight(word: &[u8]) -> usize {
-    let mut places = 0;
-    for symbol in word {
-        if *symbol != 0 {
-            places += 1;
-        }
-    }
-    places
+    word.iter().filter(|symbol| **symbol != 0).count()
 }

@@ -1,31 +1,20 @@
-use Rattle.std.proofs.Common.{◌+◌}
-use native.Mathlib.Numerals.{unary_clauses}
-use Rattle.console.proofs.Cutting.{before_more, after_more, before_found, after_found, before_end, after_end}
-use Rattle.console.proofs.text.cut.Goals as goal
+use Rattle.std.proofs.Common.{◌+◌, rules, tests}
 use Rattle.std.proofs.lemmas.List.{take_rest}
+use Rattle.std.proofs.lemmas.Iterator.{YieldsList-from_slice}
+use Rattle.std.proofs.lemmas.Iterator.Search.{position_from_yields_List}
+use Rattle.console.proofs.Cutting.{cut_at, cut_nowhere}
+use Rattle.console.proofs.text.cut.Goals as goal
 
-pub returns-then-b-separator : goal.returns-then-b-separator
-returns-then-b-separator c =
+pub returns-in-Some : goal.returns-in-Some
+returns-in-Some c =
     let xs = c.args.bytes.now in
-    let i = c.loop-i.i in
-    let at = c.if-b-separator.true in
-    record {
-      piece = simp unary_clauses (before_found c.args.separator xs i c.loop-i-test.true at c.loop-i.invariant.0);
-      rest = rw (take_rest xs (i + 1)) (after_found c.args.separator xs i c.loop-i-test.true at c.loop-i.invariant.1);
-    }
+    let found = position_from_yields_List _ _ _ c.position.result c.position.ensures.ran (YieldsList-from_slice xs cc) (λ x b q k. search (rules, tests)) in
+    let cut = cut_at c.args.separator xs c.position.result found c.in-Some.place c.in-Some.is in
+    record { piece = cut.0; rest = rw (take_rest xs (c.in-Some.place + 1)) cut.1 }
 
-pub loop-i-preserved : goal.loop-i-preserved
-loop-i-preserved c =
+pub returns-in-None : goal.returns-in-None
+returns-in-None c =
     let xs = c.args.bytes.now in
-    let i = c.loop-i.i in (
-      before_more c.args.separator xs i c.loop-i-test.true c.if-b-separator.false c.loop-i.invariant.0,
-      after_more c.args.separator xs i c.loop-i-test.true c.if-b-separator.false c.loop-i.invariant.1,
-    )
-
-pub returns : goal.returns
-returns c =
-    let xs = c.args.bytes.now in
-    record {
-      piece = before_end c.args.separator xs c.loop-i.i c.loop-i-test.false c.loop-i.invariant.0;
-      rest = after_end c.args.separator xs c.loop-i.i c.loop-i-test.false c.loop-i.invariant.1;
-    }
+    let found = position_from_yields_List _ _ _ c.position.result c.position.ensures.ran (YieldsList-from_slice xs cc) (λ x b q k. search (rules, tests)) in
+    let cut = cut_nowhere c.args.separator xs c.position.result found c.in-None.is in
+    record { piece = cut.0; rest = cut.1 }
