@@ -118,6 +118,7 @@ impl Run {
     }
 
     /// What a word of a list stands for: `B` for one byte, `N*B` for N bytes B.
+    // No `TryFrom`: there is one way to fail, and the contract would name an error for it.
     fn parse(word: &[u8]) -> Option<Run>
         ensures { result ≡ run_of word.now }
     {
