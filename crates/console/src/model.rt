@@ -89,6 +89,7 @@ pub trait Model: Sized {
     fn show(&self, memory: &mut [u8]) -> Option<Result<(), Refusal>>;
 }
 
+// The two impls differ in show alone; one struct for both would need a type for each way to show, which is no plainer.
 /// A code that shows a pair is a model as it is.
 impl<C: Showing + Drop> Model for C {
     type Code = C;

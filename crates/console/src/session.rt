@@ -26,7 +26,7 @@ use std::io::Write;
 
 /// Carries out a whole script.
 pub fn run_script(rt: &HostRuntime, script: &[u8]) -> io::Result<()> {
-    let mut lines = Pieces::lines(script);
+    let mut lines = Pieces::between(script, b'\n');
     let mut given = 0;
     let mut next = serve(rt, &mut lines, &mut NoModel)?;
     while let Next::Choose(name) = next {

@@ -19,6 +19,7 @@ const SHORTEST_RUN: usize = 4;
 
 /// The pieces of a text between separators: the lines of a script, the words of a line. Where two separators stand side
 /// by side, the piece between them is empty.
+// The library's `split` has its closure in its type: each function over lines or words would be generic over it.
 #[derive(Drop)]
 pub struct Pieces<'a> {
     rest: Option<&'a [u8]>,
@@ -26,21 +27,13 @@ pub struct Pieces<'a> {
 }
 
 impl<'a> Pieces<'a> {
-    pub fn lines(script: &'a [u8]) -> Pieces<'a>
-        ensures { to_come result ≡ pieces 10 script.now }
+    /// The pieces of a text between the bytes that are this separator.
+    pub fn between(text: &'a [u8], separator: u8) -> Pieces<'a>
+        ensures { to_come result ≡ pieces separator text.now }
     {
         Pieces {
-            rest: Some(script),
-            separator: b'\n',
-        }
-    }
-
-    pub fn words(line: &'a [u8]) -> Pieces<'a>
-        ensures { to_come result ≡ pieces 32 line.now }
-    {
-        Pieces {
-            rest: Some(line),
-            separator: b' ',
+            rest: Some(text),
+            separator,
         }
     }
 }
@@ -125,6 +118,7 @@ impl Run {
     }
 
     /// What a word of a list stands for: `B` for one byte, `N*B` for N bytes B.
+    // No `TryFrom`: there is one way to fail, and the contract would name an error for it.
     fn parse(word: &[u8]) -> Option<Run>
         ensures { result ≡ run_of word.now }
     {
