@@ -1,8 +1,8 @@
 // The commands that a plotting store alone serves.
 use crate::fault::{Fault, Reason};
 use crate::holder::AtPlotting;
-use crate::slips::{Numbered, slip_of_another_store};
 use crate::outcome::Outcome;
+use crate::slips::{Numbered, slip_of_another_store};
 use codes::code::Code;
 use cues::{Slip, StoreRefusal};
 use std::alloc::Global;

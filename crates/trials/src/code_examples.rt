@@ -3,8 +3,8 @@
 mod tests {
     use crate::number;
     use alphabets::Three;
-    use codes::refusals::MakingRefusal;
     use codes::code::{Code, Showing};
+    use codes::refusals::MakingRefusal;
     use codes::trips::{mend_in_reach, read_then_send, send_then_mend, send_then_read};
     use parity::Parity;
     use repetition::Repetition;

@@ -73,6 +73,9 @@ mod tests {
         assert_eq!(rt; memory, [1, 0, 0, 1, 3, 2, 77]);
         assert_eq!(rt; number(systematic::read::<Hexacode, 6, 3>(&mut memory)), 0);
         assert_eq!(rt; memory, [1, 0, 0, 0, 0, 0, 77]);
-        assert_eq!(rt; number(systematic::read::<Hexacode, 6, 3>(&mut [1, 0, 0, 1, 3])), 1);
+        assert_eq!(rt;
+            number(systematic::read::<Hexacode, 6, 3>(&mut [1, 0, 0, 1, 3])),
+            1
+        );
     }
 }

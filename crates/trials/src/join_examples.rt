@@ -3,8 +3,8 @@
 mod tests {
     use crate::number;
     use alphabets::Two;
-    use codes::refusals::MakingRefusal;
     use codes::code::Code;
+    use codes::refusals::MakingRefusal;
     use direct_sum::DirectSum;
     use hexacode::Hexacode;
     use repetition::Repetition;
