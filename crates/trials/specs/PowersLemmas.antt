@@ -1,8 +1,7 @@
 -- The alphabet of five symbols is lawful, and the code of powers keeps its meaning. Assumes nothing.
-use Rattle.std.specs.Prelude.{◌≡◌, ℕ, zero, suc, ◌/◌, ◌%◌, ◌^◌, ◌<◌, [], ◌∷◌, refl}
-use Rattle.std.proofs.Common.{ap, arith, lit≤}
+use Rattle.std.specs.Prelude.{ℕ, zero, suc, ◌^◌, ◌<◌, refl}
+use Rattle.std.proofs.Common.{arith, lit≤}
 use Rattle.theory.specs.Alphabets.{Lawful}
-use Rattle.theory.specs.Levels.{digits}
 use Rattle.theory.specs.Meanings.{Keeps}
 use Rattle.theory.proofs.Systematic.{systematic_keeps}
 use Rattle.trials.specs.Powers.{five, powers_checks, powers}
