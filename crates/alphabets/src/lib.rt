@@ -5,6 +5,7 @@ ghost use Rattle.std.specs.Prelude.{◌≡◌, ℕ, refl};
 ghost use Rattle.theory.specs.Alphabets.{Arithmetic, Lawful, modular, plus, minus, two, three, four, times4};
 ghost use Rattle.theory.proofs.Alphabets.{two_lawful, three_lawful, four_lawful};
 
+// A byte and no None: words stand as bytes in lent memory, where every byte that is no symbol is a mark.
 /// What the sum, the negative or the product of a mark is.
 pub const MARK: u8 = 255;
 

@@ -16,6 +16,7 @@ pub enum Refusal {
 }
 
 impl Refusal {
+    // By a match: a case with a value takes no number of its own.
     /// The number by which it is known.
     pub fn number(&self) -> u8
         ensures { result ≡ refusal_number self.now }

@@ -66,6 +66,7 @@ impl<M: Model> Holder for Chosen<M> {
     }
 }
 
+// The call is read from the script, so it is a value and no closure.
 /// What a call of the model's code answers, with the memory as it leaves it.
 fn perform<M: Model>(
     model: &M,

@@ -12,6 +12,7 @@ use puncture::Puncture;
 use repetition::Repetition;
 use shorten::Shorten;
 
+// A function for each code that takes more than one call: what two of them have alike is the number of parts.
 pub fn three_pile() -> Result<Plotkin<Parity<Three>, Repetition<Three>>, MakingRefusal> {
     Plotkin::new(Parity::new(5)?, Repetition::new(5)?)
 }

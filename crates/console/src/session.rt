@@ -24,6 +24,8 @@ use std::alloc::{AllocError, Global};
 use std::io;
 use std::io::Write;
 
+// The runtime and the lines to come go side by side: the clauses speak of the lines alone, and a struct for both would stand in
+// each of them.
 /// Carries out a whole script.
 pub fn run_script(rt: &HostRuntime, script: &[u8]) -> io::Result<()> {
     let mut lines = Pieces::between(script, b'\n');

@@ -13,6 +13,7 @@ pub struct Numbered {
     pub slip: Slip,
 }
 
+// A list: a slip has to be let go by hand, and few are out, so a search is as plain as a map.
 /// The slips that are out, and how many the script was given.
 pub struct Slips {
     pub out: Vec<Numbered>,

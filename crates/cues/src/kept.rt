@@ -5,6 +5,7 @@ ghost use Rattle.store_theory.specs.States.{new_state};
 
 use store_theory::CueMark;
 
+// An array for the most cues: the store allocates nothing.
 /// A mark for each of the most cues that a store may have, and how many words were changed by touching up.
 #[derive(Clone, Copy)]
 pub struct Kept {

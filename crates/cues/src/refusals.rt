@@ -39,6 +39,7 @@ pub enum StoreRefusal {
 }
 
 impl StoreRefusal {
+    // By a match: a case with values takes no number of its own.
     /// The number by which it is known; that of the code's fault, if it is one.
     pub fn number(&self) -> u8
         ensures { result ≡ store_number self.now }

@@ -52,6 +52,8 @@ impl Systematic<LENGTH, DIMENSION> for Hamming {
     }
 }
 
+// What each systematic code answers alike stays one line each: an impl for every type that is systematic would leave a type
+// with an impl of its own two to choose from.
 impl Code for Hamming {
     type Symbols = Two;
 

@@ -25,6 +25,7 @@ pub struct Parity<S> {
 }
 
 impl<S: Alphabet> Parity<S> {
+    // Three lines over bounds of its own: a struct for a length in bounds, shared with repetition, would be longer.
     /// Parity of length n, 2 to 64.
     pub fn new(n: usize) -> Result<Parity<S>, MakingRefusal>
         ensures { making (λ c. parity S.Alphabet.symbols c.n) result ≡ parity_making S.Alphabet.symbols n }

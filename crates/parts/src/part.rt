@@ -34,6 +34,7 @@ impl<C: Code + Drop> Part<C> {
     }
 }
 
+// Send, mend and read are the three ways to call `call_in_part`: each names the bytes that it is given and the call.
 impl<C: Code> Part<C> {
     /// Sends the message at `from` in the part at `at`.
     pub fn send(&self, memory: &mut [u8], from: usize, at: usize) -> Result<(), Refusal>

@@ -26,6 +26,7 @@ pub struct Repetition<S> {
 }
 
 impl<S: Alphabet> Repetition<S> {
+    // Three lines over bounds of its own: a struct for a length in bounds, shared with parity, would be longer.
     /// Repetition of length n, 1 to 64.
     pub fn new(n: usize) -> Result<Repetition<S>, MakingRefusal>
         ensures { making (λ c. repetition c.n) result ≡ repetition_making n }

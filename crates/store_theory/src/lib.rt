@@ -8,6 +8,7 @@ ghost use Rattle.store_theory.specs.LevelCases.{level_cases, LevelExamplesHold};
 ghost use Rattle.store_theory.specs.RunCases.{run_cases, RunExamplesHold};
 ghost use Rattle.store_theory.specs.Statements.{BookAndStoreAgree, RecallGivesWhatWasLastRecorded, WrittenLevelsReadBack};
 
+// Two flags: each of the four ways is a cue's.
 /// What a store keeps of one cue.
 #[derive(Clone, Copy)]
 pub struct CueMark {

@@ -16,6 +16,7 @@ pub fn number(answer: Result<(), Refusal>) -> u8
     }
 }
 
+// Beside `number`, and in the stores' tests again: a trait for all refusals would be longer than these few lines.
 /// The number of a refused making, or 0 for a code that was made.
 pub fn making_number<C: Drop>(answer: Result<C, MakingRefusal>) -> u8
     ensures { result ≡ making_number_of answer }
