@@ -55,6 +55,7 @@ pub fn add_modulo(order: u8, x: u8, y: u8) -> u8
     if x >= order || y >= order {
         return MARK;
     }
+    // By `as`: below the order, so a byte; `try_from` would have a case that never is.
     ((u16::from(x) + u16::from(y)) % u16::from(order)) as u8
 }
 
@@ -65,6 +66,8 @@ pub fn negate_modulo(order: u8, x: u8) -> u8
     if x < order { (order - x) % order } else { MARK }
 }
 
+// An impl each for two and three: with one for every alphabet that is added modulo its order, a struct over any alphabet got no
+// proof at four symbols, where two impls fit.
 /// Two symbols, added modulo 2.
 #[derive(Clone, Copy)]
 pub struct Two;

@@ -1,4 +1,5 @@
-// Bytes in lent memory. A range that is not all there is left as it is.
+// Bytes in lent memory. A range that is not all there is left as it is. From and count, as in the definitions: the end of a range
+// could overflow.
 ghost use Rattle.std.specs.Prelude.{◌≡◌, ◌+◌, nat_le};
 ghost use Rattle.theory.specs.Memory.{moved, cleared, copied};
 

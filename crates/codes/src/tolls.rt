@@ -51,6 +51,7 @@ pub fn damage_between<S: Alphabet>(word: &[u8], received: &[u8]) -> Damage
     }
 }
 
+// Functions of their own: the chains are proved in the library's words, and a lemma says each in the words of marks.
 /// The place of the first byte that is not below `order`, if there is one.
 fn first_from(bytes: &[u8], order: u8) -> Option<usize>
     ensures { result ≡ position (λ x. nat_le order x) bytes.now }

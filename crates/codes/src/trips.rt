@@ -1,4 +1,5 @@
-// Calls one after the other, and what mend is in the words of reach. Each holds of every fit code.
+// Calls one after the other, and what mend is in the words of reach. Each holds of every fit code, and each is a function since
+// its promise is a theorem of its own.
 ghost use Rattle.std.specs.Prelude.{◌≡◌};
 ghost use Rattle.codes.specs.Refusals.{outcome};
 ghost use Rattle.theory.specs.Calls.{sent, mended};

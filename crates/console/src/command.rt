@@ -16,6 +16,7 @@ pub enum Call {
     Show,
 }
 
+// A command is read from the script, so it is a value, and is matched where it is served.
 /// A line that can be carried out, if there is what it works on.
 #[derive(Drop)]
 pub enum Command {
@@ -123,6 +124,7 @@ fn only_number(words: Pieces) -> Result<usize, Reason> {
     parse_number(only_word(words)?).ok_or(Reason::WrongArguments)
 }
 
+// As `only_number`: a function that takes the parsing would be no shorter.
 /// The one word that is left, as a byte.
 fn only_byte(words: Pieces) -> Result<u8, Reason> {
     parse_byte(only_word(words)?).ok_or(Reason::WrongArguments)

@@ -15,6 +15,7 @@ use cues::{Store, WhilePlotting, WhileRunning};
 use std::alloc::Global;
 use std::io::Write;
 
+// The heap is a handle that is copied: a struct of it and the answer would be no plainer.
 pub trait Holder {
     /// Carries a command out and writes its answer, and says what comes next. It is never one that chooses a model or
     /// makes a code.
@@ -158,6 +159,7 @@ impl<C: Code + Drop> Holder for AtPlotting<C> {
     }
 }
 
+// `stop` as `start`: what differs is the store's own call.
 impl<C: Code + Drop> AtRunning<C> {
     pub fn stop(self) -> AtPlotting<C> {
         let AtStore { store, desk, slips } = self;

@@ -28,6 +28,7 @@ pub enum Making {
 impl Making {
     /// Makes the code, and writes its numbers or the refusal.
     pub fn make(self, answer: &mut Vec<u8>) -> io::Result<()> {
+        // A match and no table: each arm has a code of another type.
         match self {
             Making::Repetition(n) => write_making(answer, Repetition::<Two>::new(n)),
             Making::Parity(n) => write_making(answer, Parity::<Two>::new(n)),

@@ -56,9 +56,9 @@ impl Refused for StoreRefusal {
 
 /// A code's numbers, as they are printed: its length, dimension, distance and working length.
 #[derive(Clone, Copy)]
-pub struct Numbers<'a, C>(pub &'a C);
+pub struct CodeNumbers<'a, C>(pub &'a C);
 
-impl<C: Code> fmt::Display for Numbers<'_, C> {
+impl<C: Code> fmt::Display for CodeNumbers<'_, C> {
     fn fmt<W: fmt::Write>(&self, f: &mut fmt::Formatter<W>) -> fmt::Result {
         let code = self.0;
         write!(
@@ -95,7 +95,7 @@ pub fn write_making<C: Code + Drop>(
     made: Result<C, MakingRefusal>,
 ) -> io::Result<()> {
     match made {
-        Ok(code) => writeln!(answer, "{}", Numbers(&code)),
+        Ok(code) => writeln!(answer, "{}", CodeNumbers(&code)),
         Err(why) => writeln!(answer, "{}", Outcome(Err(why))),
     }
 }

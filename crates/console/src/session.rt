@@ -8,7 +8,7 @@ use crate::holder::{AtPlotting, AtStore, Chosen, Holder, NoModel, UsedUp};
 use crate::model::{Model, Name};
 use crate::models::{punctured_hexacode, rig, short_hamming, split, three_pile, tower};
 use crate::next::Next;
-use crate::outcome::{Carriers, Numbers, Outcome, Refused};
+use crate::outcome::{Carriers, CodeNumbers, Outcome, Refused};
 use crate::slips::Slips;
 use crate::text::Pieces;
 use alphabets::Three;
@@ -47,6 +47,7 @@ fn serve_named(
     ensures chosen { UsesLines (chosen result) (pieces_left lines.old.rest) (pieces_left lines.new.rest) }
     ensures asked { AsksByLines result (pieces_left lines.old.rest) (pieces_left lines.new.rest) }
 {
+    // A match and no table: each arm has a code of another type.
     match name {
         Name::Rep5Three => serve_model(rt, lines, name, given, Repetition::<Three>::new(5)),
         Name::Parity3Three => serve_model(rt, lines, name, given, Parity::<Three>::new(3)),
@@ -173,7 +174,7 @@ fn new_desk<C: Code + Drop>(
 
 /// Answers a line that chose a model.
 fn print_model<C: Code>(rt: &HostRuntime, name: Name, code: &C) -> io::Result<()> {
-    println!(rt; "{name}: {}, {}", Numbers(code), Carriers(code))
+    println!(rt; "{name}: {}, {}", CodeNumbers(code), Carriers(code))
 }
 
 /// Answers a line that chose a model or made a store, and is refused.

@@ -5,7 +5,7 @@ use alphabets::Two;
 use codes::code::Code;
 use cues::{Plotting, Slip, StoreRefusal};
 use repetition::Repetition;
-use std::alloc::{AllocError, AllocFailed as Refused, Global};
+use std::alloc::{AllocError, AllocFailed, Global};
 
 /// A slip with the number by which the script knows it. It has to be let go.
 pub struct Numbered {
@@ -13,7 +13,7 @@ pub struct Numbered {
     pub slip: Slip,
 }
 
-// A list: a slip has to be let go by hand, and few are out, so a search is as plain as a map.
+// A list: a map's insert hands back what stood there, and a slip that never is would have to be let go.
 /// The slips that are out, and how many the script was given.
 pub struct Slips {
     pub out: Vec<Numbered>,
@@ -51,7 +51,7 @@ impl Slips {
                 Ok(number)
             }
             Err(refused) => {
-                let Refused { value } = refused;
+                let AllocFailed { value } = refused;
                 let Numbered { number: _, slip } = value;
                 store.let_go(slip);
                 Err(AllocError)

@@ -36,9 +36,7 @@ impl<'a> Pieces<'a> {
             separator,
         }
     }
-}
 
-impl Pieces<'_> {
     /// Whether no piece is left.
     pub fn is_ended(&self) -> bool {
         self.rest.is_none()
@@ -72,6 +70,7 @@ fn cut(bytes: &[u8], separator: u8) -> (&[u8], Option<&[u8]>)
     }
 }
 
+// No `str::parse`: a script is bytes, and it would take a sign too.
 /// The number that decimal digits write, if it is not too large.
 #[tactic(auto, using(crate::proofs::Reading::number_is, crate::proofs::Reading::read_other, crate::proofs::Reading::read_more, crate::proofs::Reading::read_large))]
 pub fn parse_number(word: &[u8]) -> Option<usize>

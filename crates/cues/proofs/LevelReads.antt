@@ -21,7 +21,7 @@ use Rattle.cues.specs.Shapes.{plan_in}
 use Rattle.cues.specs.Steps.{as_byte, carried_byte, AllReached, symbols_in, Loaded, level_outcome}
 use Rattle.cues.specs.declared.shape.Shape.{Shape}
 use Rattle.cues.proofs.Messages.{set_behind, over_all}
-use Rattle.cues.proofs.Sizes.{FitStore}
+use Rattle.cues.proofs.Sizes.{KnownStore}
 use Rattle.cues.proofs.WordReads.{fails_more, fails_all, symbols_count}
 
 -- a number at most 255, and one above
@@ -70,7 +70,7 @@ number_more_byte q b start place value symbol symbols some inside fits v s =
     ∙ carried_on (number_from_digits q (take place (part symbols start b))) q (get_or (part symbols start b) place 0) some
     ∙ ap as_byte (sym (number_more q (part symbols start b) place (omega (arith, long))))
 
-module _ {A : Arithmetic} {m : Meaning} {shape : Shape} (fit : FitStore A m shape) (cue : ℕ) (cells : List ℕ) where
+module _ {A : Arithmetic} {m : Meaning} {shape : Shape} (fit : KnownStore A m shape) (cue : ℕ) (cells : List ℕ) where
   abbrev symbols : List ℕ
   symbols = symbols_in A m (plan_in shape) cue cells
 
@@ -82,10 +82,6 @@ module _ {A : Arithmetic} {m : Meaning} {shape : Shape} (fit : FitStore A m shap
 
   width-is : (level : ℕ) → level * shape.width ≡ level * A.b
   width-is level = ap (λ (w : ℕ). level * w) fit.numbers.width
-
-  -- where the symbols of a level begin and end
-  pub level_begins : (level : ℕ) (memory : List ℕ) → Loaded A m (plan_in shape) cue cells (level * A.b) memory → Loaded A m (plan_in shape) cue cells (level * shape.width + 0) memory
-  level_begins level memory = subst (λ (j : ℕ). Loaded A m (plan_in shape) cue cells j memory) (omega (arith, width-is level))
 
   pub level_goes_on : (start place : ℕ) (memory : List ℕ) → Loaded A m (plan_in shape) cue cells (start + place + 1) memory → Loaded A m (plan_in shape) cue cells (start + (place + 1)) memory
   level_goes_on start place memory = subst (λ (j : ℕ). Loaded A m (plan_in shape) cue cells j memory) (omega arith)

@@ -44,10 +44,6 @@ counted_more f xs ys i v e is h =
     ∙ set_behind xs 0 (map f (range_with_len 0 i)) (f i) i (omega (arith, length-map-range_with_len f 0 i)) h
     ∙ ap (over xs 0) (sym (map-range_with_len_more f 0 i i (omega arith)))
 
--- a level with its last symbols taken off, one after another
-pub divided_none : (order level : ℕ) → level ≡ level / (order ^ 0)
-divided_none order level = sym (div-one level) ∙ ap (λ (x : ℕ). level / x) (sym (pow-zero order))
-
 pub divided_more : (order level place high : ℕ) → high ≡ level / (order ^ place) → high / order ≡ level / (order ^ (place + 1))
 divided_more order level place high e =
     let more : suc place ≡ place + 1 = omega arith in

@@ -10,10 +10,6 @@ module _ {T : Type 0} where
   pub err_is_refused : (r : Result T StoreRefusal) (e : StoreRefusal) → r ≡ Err e → store_outcome r ≡ accepted → ⊥
   err_is_refused r e is h = not_accepted (store_number e) (store_values e) (sym (ap store_outcome is) ∙ h)
 
-  -- a result has one value
-  pub err_is_not_ok : (r : Result T StoreRefusal) (e : StoreRefusal) (x : T) → r ≡ Err e → r ≡ Ok x → ⊥
-  err_is_not_ok r e x is h = let z : ◌≡◌ {A = ℕ} 0 1 = cc in omega arith
-
   pub same_value : (r : Result T StoreRefusal) (x y : T) → r ≡ Ok x → r ≡ Ok y → x ≡ y
   same_value r x y is h = cc
 

@@ -14,7 +14,7 @@ use Rattle.theory.proofs.Trips.{not_accepted}
 use Rattle.cues.specs.Shapes.{plan_in}
 use Rattle.cues.specs.declared.shape.Shape.{Shape}
 use Rattle.cues.specs.Steps.{reach_outcome, level_outcome, symbols_in}
-use Rattle.cues.proofs.Sizes.{FitStore}
+use Rattle.cues.proofs.Sizes.{KnownStore}
 use Rattle.cues.proofs.WordWrites.{cleared_same}
 
 -- zeros in place of what was written in front
@@ -45,6 +45,6 @@ module _ (A : Arithmetic) (m : Meaning) (p : Plan) (cue : ℕ) (state : State) (
     recall_read e = by_words (first_place (is_beyond_reach A m) (cue_words A m p cells cue)) e
 
 -- what a recall comes to by its definition, gives what was last recorded
-pub last_recorded : {A : Arithmetic} {m : Meaning} {shape : Shape} (fit : FitStore A m shape) (cue : ℕ) (state : State) (cells levels memory : List ℕ) {left : StoreAnswer} → left ≡ recalled_cue A m (plan_in shape) cue state cells levels memory → LastRecorded A m (plan_in shape) cue state cells levels memory left
+pub last_recorded : {A : Arithmetic} {m : Meaning} {shape : Shape} (fit : KnownStore A m shape) (cue : ℕ) (state : State) (cells levels memory : List ℕ) {left : StoreAnswer} → left ≡ recalled_cue A m (plan_in shape) cue state cells levels memory → LastRecorded A m (plan_in shape) cue state cells levels memory left
 last_recorded {A} {m} {shape} fit cue state cells levels memory e =
     subst (LastRecorded A m (plan_in shape) cue state cells levels memory) (sym e) (recall_gives_what_was_last_recorded A fit.laws m fit.keeps (plan_in shape) (ap outcome_of fit.numbers.making) cue state cells levels memory)

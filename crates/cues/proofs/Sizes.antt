@@ -12,12 +12,12 @@ use Rattle.cues.specs.Shapes.{plan_in, StoreNumbers, Enough}
 use Rattle.cues.specs.declared.shape.Shape.{Shape}
 
 -- a fit code over its alphabet, and the numbers of a store over it
-pub record FitStore (A : Arithmetic) (m : Meaning) (shape : Shape) : Type 0 where
+pub record KnownStore (A : Arithmetic) (m : Meaning) (shape : Shape) : Type 0 where
   pub laws : Lawful A
   pub keeps : Keeps A m
   pub numbers : StoreNumbers A m shape
 
-pub fit_store : {A : Arithmetic} {m : Meaning} {shape : Shape} → Lawful A → Keeps A m → StoreNumbers A m shape → FitStore A m shape
+pub fit_store : {A : Arithmetic} {m : Meaning} {shape : Shape} → Lawful A → Keeps A m → StoreNumbers A m shape → KnownStore A m shape
 fit_store laws keeps numbers = record { laws = laws; keeps = keeps; numbers = numbers }
 
 -- memory of the same length is enough too
@@ -57,7 +57,3 @@ module _ {A : Arithmetic} {m : Meaning} {shape : Shape} (f : StoreNumbers A m sh
       let left : take (shape.numbers.length - 0) xs ≡ take m.n xs = ap (λ (n : ℕ). take n xs) first in
       let right : take (start + shape.numbers.length - start) (drop start cells) ≡ part cells (cell_of_word A m (plan_in shape) cue word) m.n = ap₂ (λ (n a : ℕ). take n (drop a cells)) count at in
       (λ t. sym left ∙ d.0 t ∙ right, λ s. d.1 (left ∙ s ∙ sym right))
-
--- a symbol of a level stands within all symbols
-pub level_place : (shape : Shape) (level place : ℕ) → level < shape.levels → place < shape.width → level * shape.width + place < shape.words * shape.numbers.dimension
-level_place shape level place inside small = omega (arith, row_inside level shape.levels shape.width inside, shape.enough_words)

@@ -24,7 +24,7 @@ use Rattle.theory.proofs.Words.{same_true, same_self}
 use Rattle.cues.specs.Shapes.{plan_in, Enough}
 use Rattle.cues.specs.Steps.{SameBehind, TouchedOne, mended_copy, mended_in_memory, mended_in_memory}
 use Rattle.cues.specs.declared.shape.Shape.{Shape}
-use Rattle.cues.proofs.Sizes.{FitStore, cells_are, start_is}
+use Rattle.cues.proofs.Sizes.{KnownStore, cells_are, start_is}
 
 -- one more counted or not
 pub count_more : {X : Type 0} (test : X → Bool) (xs : List X) (i : ℕ) (d : X) → i < length xs → count_by test (take i xs) + cond (test (get_or xs i d)) 1 0 ≡ count_by test (take (i + 1) xs)
@@ -34,7 +34,7 @@ count_more test xs i d h = go (test (get_or xs i d)) refl
     go true e = sym (count_by_more_yes test xs i d h e)
     go false e = omega (arith, count_by_more_no test xs i d h e)
 
-module _ {A : Arithmetic} {m : Meaning} {shape : Shape} (fit : FitStore A m shape) (cue : ℕ) (cells memory : List ℕ) (enough : Enough shape cue (length cells) (length memory)) (word : ℕ) (inside : word < shape.words) where
+module _ {A : Arithmetic} {m : Meaning} {shape : Shape} (fit : KnownStore A m shape) (cue : ℕ) (cells memory : List ℕ) (enough : Enough shape cue (length cells) (length memory)) (word : ℕ) (inside : word < shape.words) where
   abbrev found : List ℕ
   found = part cells (cell_of_word A m (plan_in shape) cue word) m.n
 
@@ -96,12 +96,12 @@ module _ {A : Arithmetic} {m : Meaning} {shape : Shape} (fit : FitStore A m shap
         go (Some s) = refl
 
 -- a word is mended in the working memory, or found beyond reach
-pub record MendedWord {A : Arithmetic} {m : Meaning} {shape : Shape} (fit : FitStore A m shape) (cue word : ℕ) (cells memory : List ℕ) (o : Outcome) (zs : List ℕ) : Type 0 where
+pub record MendedWord {A : Arithmetic} {m : Meaning} {shape : Shape} (fit : KnownStore A m shape) (cue word : ℕ) (cells memory : List ℕ) (o : Outcome) (zs : List ℕ) : Type 0 where
   pub inside : word < shape.words
   pub enough : Enough shape cue (length cells) (length memory)
   pub mends : paired o zs ≡ mended_in_memory A m (plan_in shape) cue word cells memory
 
-module _ {A : Arithmetic} {m : Meaning} {shape : Shape} {fit : FitStore A m shape} {cue word : ℕ} {cells memory : List ℕ} {o : Outcome} {zs : List ℕ} (w : MendedWord fit cue word cells memory o zs) where
+module _ {A : Arithmetic} {m : Meaning} {shape : Shape} {fit : KnownStore A m shape} {cue word : ℕ} {cells memory : List ℕ} {o : Outcome} {zs : List ℕ} (w : MendedWord fit cue word cells memory o zs) where
   abbrev copy : List ℕ
   copy = part cells (cell_of_word A m (plan_in shape) cue word) m.n
 
@@ -168,7 +168,7 @@ module _ {A : Arithmetic} {m : Meaning} {shape : Shape} {fit : FitStore A m shap
           }
 
 -- all words, one after another
-module _ {A : Arithmetic} {m : Meaning} {shape : Shape} (fit : FitStore A m shape) {cue memory : ℕ} (cells : List ℕ) (enough : Enough shape cue (length cells) memory) where
+module _ {A : Arithmetic} {m : Meaning} {shape : Shape} (fit : KnownStore A m shape) {cue memory : ℕ} (cells : List ℕ) (enough : Enough shape cue (length cells) memory) where
   all_room : cell_count A m (plan_in shape) ≤ length cells
   all_room = omega (arith, cells_are fit.numbers, enough.room)
 

@@ -28,7 +28,7 @@ use Rattle.theory.proofs.Trips.{not_accepted}
 use Rattle.cues.specs.Shapes.{plan_in}
 use Rattle.cues.specs.Steps.{mended_copy, reach_outcome, AllReached, symbols_in, Loaded, ReadWord}
 use Rattle.cues.specs.declared.shape.Shape.{Shape}
-use Rattle.cues.proofs.Sizes.{FitStore}
+use Rattle.cues.proofs.Sizes.{KnownStore}
 use Rattle.cues.proofs.WordMends.{MendedWord, mend_leaves}
 
 -- where none passes, every one fails
@@ -73,7 +73,7 @@ some_is : (o : Option (List ℕ)) → not (is_some o) ≡ false → o ≡ Some (
 some_is None e = absurd (let z : ◌≡◌ {A = ℕ} 0 1 = cc in omega arith)
 some_is (Some s) e = refl
 
-module _ {A : Arithmetic} {m : Meaning} {shape : Shape} (fit : FitStore A m shape) (cue : ℕ) (cells : List ℕ) where
+module _ {A : Arithmetic} {m : Meaning} {shape : Shape} (fit : KnownStore A m shape) (cue : ℕ) (cells : List ℕ) where
   abbrev words : List (List ℕ)
   words = cue_words A m (plan_in shape) cells cue
 
@@ -93,10 +93,6 @@ module _ {A : Arithmetic} {m : Meaning} {shape : Shape} (fit : FitStore A m shap
   messages_long : (xss : List (List ℕ)) → All (λ x. is_beyond_reach A m x ≡ false) xss → Long m.k (map message_found xss)
   messages_long [] h = tt
   messages_long (xs ∷ xss) h = ((found_message xs h.0).long, messages_long xss h.1)
-
-  -- before the first symbol nothing has to be there
-  pub loaded_first : (size : ℕ) (memory : List ℕ) → Loaded A m (plan_in shape) cue cells (0 * size) memory
-  loaded_first size memory inside = absurd (inside (ap (λ (j : ℕ). j % m.k) (zero-mul size) ∙ zero-mod m.k))
 
   module _ (reached : AllReached A m (plan_in shape) cue cells) where
     all_in_reach : All (λ x. is_beyond_reach A m x ≡ false) words
@@ -148,7 +144,7 @@ module _ {A : Arithmetic} {m : Meaning} {shape : Shape} (fit : FitStore A m shap
       loaded_next inside =
           read ∙ ap (λ (j : ℕ). part (symbols_in A m (plan_in shape) cue cells) (j * m.k) m.k) (sym (same_row place m.k fit.keeps.some_symbols inside))
 
-module _ {A : Arithmetic} {m : Meaning} {shape : Shape} {fit : FitStore A m shape} {cue word : ℕ} {cells memory : List ℕ} {o : Outcome} {ys : List ℕ} (w : MendedWord fit cue word cells memory o ys) where
+module _ {A : Arithmetic} {m : Meaning} {shape : Shape} {fit : KnownStore A m shape} {cue word : ℕ} {cells memory : List ℕ} {o : Outcome} {ys : List ℕ} (w : MendedWord fit cue word cells memory o ys) where
   abbrev found : List ℕ
   found = part cells (cell_of_word A m (plan_in shape) cue word) m.n
 

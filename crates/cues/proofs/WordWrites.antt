@@ -23,19 +23,19 @@ use Rattle.cues.specs.Shapes.{plan_in, Enough}
 use Rattle.cues.specs.Steps.{message_in, SameBehind}
 use Rattle.cues.specs.declared.shape.Shape.{Shape}
 use Rattle.cues.proofs.Messages.{message_is}
-use Rattle.cues.proofs.Sizes.{FitStore, cells_are, start_is}
+use Rattle.cues.proofs.Sizes.{KnownStore, cells_are, start_is}
 
 -- zeros in front of what stands behind
 pub cleared_same : (w w' : ℕ) (xs ys : List ℕ) → w ≡ w' → w' ≤ length ys → SameBehind w' xs ys → cleared ys 0 w ≡ zeroed w' xs
 cleared_same w w' xs ys e h s =
     ap (cleared ys 0) e ∙ cleared_front w' ys h ∙ ap (λ (zs : List ℕ). replicate w' 0 ++ zs) s
 
-pub memory_cleared : {A : Arithmetic} {m : Meaning} {shape : Shape} (fit : FitStore A m shape) {cue cells : ℕ} (memory after : List ℕ) → Enough shape cue cells (length memory) → length after ≡ length memory → SameBehind m.w memory after → cleared after 0 shape.numbers.working ≡ zeroed m.w memory
+pub memory_cleared : {A : Arithmetic} {m : Meaning} {shape : Shape} (fit : KnownStore A m shape) {cue cells : ℕ} (memory after : List ℕ) → Enough shape cue cells (length memory) → length after ≡ length memory → SameBehind m.w memory after → cleared after 0 shape.numbers.working ≡ zeroed m.w memory
 memory_cleared {m = m} {shape = shape} fit memory after enough same =
     let working = fit.numbers.numbers.working in
     cleared_same shape.numbers.working m.w memory after working (omega (arith, enough.works, same, working))
 
-module _ {A : Arithmetic} {m : Meaning} {shape : Shape} (fit : FitStore A m shape) (cue : ℕ) (cells memory : List ℕ) (enough : Enough shape cue (length cells) (length memory)) (levels : List ℕ) (fewer : length levels ≤ shape.levels) where
+module _ {A : Arithmetic} {m : Meaning} {shape : Shape} (fit : KnownStore A m shape) (cue : ℕ) (cells memory : List ℕ) (enough : Enough shape cue (length cells) (length memory)) (levels : List ℕ) (fewer : length levels ≤ shape.levels) where
   all : length (all_levels (plan_in shape) levels) ≡ shape.levels
   all = all_levels_length (plan_in shape) levels fewer
 
@@ -97,7 +97,7 @@ module _ {A : Arithmetic} {m : Meaning} {shape : Shape} (fit : FitStore A m shap
           ∙ ap (over cells (cell_of_word A m (plan_in shape) cue word)) (take_settled m.w m.n (m.word (message_in shape levels word)) ys word_long ∙ word_is)
 
 -- the words so far, and all of them
-module _ {A : Arithmetic} {m : Meaning} {shape : Shape} (fit : FitStore A m shape) {cue : ℕ} (cells memory : List ℕ) (enough : Enough shape cue (length cells) (length memory)) (levels : List ℕ) (fewer : length levels ≤ shape.levels) where
+module _ {A : Arithmetic} {m : Meaning} {shape : Shape} (fit : KnownStore A m shape) {cue : ℕ} (cells memory : List ℕ) (enough : Enough shape cue (length cells) (length memory)) (levels : List ℕ) (fewer : length levels ≤ shape.levels) where
   pub words_more : {word : ℕ} → word < shape.words → {before after : List ℕ} → before ≡ over cells (cell_of_word A m (plan_in shape) cue 0) (together (take word (words_of A m (plan_in shape) (all_levels (plan_in shape) levels)))) → after ≡ over before (cell_of_word A m (plan_in shape) cue word) (get_or (words_of A m (plan_in shape) (all_levels (plan_in shape) levels)) word []) → after ≡ over cells (cell_of_word A m (plan_in shape) cue 0) (together (take (word + 1) (words_of A m (plan_in shape) (all_levels (plan_in shape) levels))))
   words_more {word} inside {before} {after} b a =
       a ∙ ap (λ (z : List ℕ). over z (cell_of_word A m (plan_in shape) cue word) (get_or (words_of A m (plan_in shape) (all_levels (plan_in shape) levels)) word [])) b
@@ -108,14 +108,14 @@ module _ {A : Arithmetic} {m : Meaning} {shape : Shape} (fit : FitStore A m shap
       a ∙ ap (λ (ws : List (List ℕ)). over cells (cell_of_word A m (plan_in shape) cue 0) (together ws)) (take_all word (words_of A m (plan_in shape) (all_levels (plan_in shape) levels)) (omega (arith, words_count A m fit.keeps (plan_in shape) fit.laws (all_levels (plan_in shape) levels) (all fit cue cells memory enough levels fewer), fit.numbers.words)))
 
 -- a message is sent, whose word is then copied
-pub record SentWord {A : Arithmetic} {m : Meaning} {shape : Shape} (fit : FitStore A m shape) (cue word : ℕ) (levels cells memory message : List ℕ) (o : Outcome) (zs : List ℕ) : Type 0 where
+pub record SentWord {A : Arithmetic} {m : Meaning} {shape : Shape} (fit : KnownStore A m shape) (cue word : ℕ) (levels cells memory message : List ℕ) (o : Outcome) (zs : List ℕ) : Type 0 where
   pub inside : word < shape.words
   pub enough : Enough shape cue (length cells) (length memory)
   pub fewer : length levels ≤ shape.levels
   pub written : message ≡ message_in shape levels word
   pub sends : paired o zs ≡ sent A m (message ++ drop shape.numbers.dimension memory)
 
-module _ {A : Arithmetic} {m : Meaning} {shape : Shape} {fit : FitStore A m shape} {cue word : ℕ} {levels cells memory message : List ℕ} {o : Outcome} {zs : List ℕ} (w : SentWord fit cue word levels cells memory message o zs) where
+module _ {A : Arithmetic} {m : Meaning} {shape : Shape} {fit : KnownStore A m shape} {cue word : ℕ} {levels cells memory message : List ℕ} {o : Outcome} {zs : List ℕ} (w : SentWord fit cue word levels cells memory message o zs) where
   put : message ++ drop shape.numbers.dimension memory ≡ over memory 0 (message_in shape levels word)
   put =
       let long = (is_message fit cue cells memory w.enough levels w.fewer word w.inside).long in

@@ -18,6 +18,7 @@ pub const MOST_LEVELS: usize = 512;
 
 pub const MOST_CELLS: usize = 1_048_576;
 
+// Cues and levels are two numbers, as in `plan_of`: here they become a Shape.
 /// The numbers of a store of so many cues and levels over this code. A code without symbols is unfit.
 pub(crate) fn shape_of<C: Code>(code: &C, cues: usize, levels: usize) -> Result<Shape, StoreRefusal>
     ensures making { C.Code.fit code.now → store_outcome result ≡ store_making C.Symbols.Alphabet.symbols (C.Code.meaning code.now) (plan_of cues levels) }

@@ -10,7 +10,8 @@ ghost use Rattle.store_theory.specs.States.{new_state};
 use crate::kept::Kept;
 use crate::making::shape_of;
 use crate::refusals::StoreRefusal;
-use crate::store::{Plotting, Running, Store};
+pub use crate::store::Plotting;
+use crate::store::{Running, Store};
 use codes::code::Code;
 use codes::memory::clear;
 use std::marker::PhantomData;
@@ -54,6 +55,7 @@ impl<C: Code + Drop> Plotting<C> {
         self.write_cue(cue, levels, cells, memory)
     }
 
+    // As `record` but for the mark: what both do is `check_recording` and `write_cue`.
     /// Records these levels in the cue of this slip, which stays held.
     pub fn record_by_slip(
         &mut self,
@@ -120,6 +122,7 @@ impl<C: Code + Drop> Plotting<C> {
         Ok(())
     }
 
+    // Field by field, as `stop` does it: a function to any state would be one more with this body.
     /// The same store, running.
     pub fn start(self) -> Running<C>
         ensures kept { result.kept ≡ self.kept }

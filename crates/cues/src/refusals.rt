@@ -7,7 +7,7 @@ ghost use Rattle.store_theory.specs.Calls.{fault_of_code};
 use codes::refusals::Refusal;
 
 /// What a call of a store, or its making, may answer in place of doing what it is asked.
-#[derive(Clone, Copy)]
+#[derive(Debug, Clone, Copy, PartialEq, Eq)]
 pub enum StoreRefusal {
     /// There are fewer cells, working bytes or bytes for levels than the call needs.
     ShortMemory,

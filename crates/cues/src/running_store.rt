@@ -2,7 +2,8 @@
 ghost use Rattle.std.specs.Prelude.{◌≡◌};
 ghost use Rattle.cues.specs.Stores.{SameStore};
 
-use crate::store::{Plotting, Running, Store};
+pub use crate::store::Running;
+use crate::store::{Plotting, Store};
 use codes::code::Code;
 use std::marker::PhantomData;
 

@@ -30,6 +30,7 @@ pub struct Shape {
 }
 
 impl Shape {
+    // Cue and word stay two numbers: `Enough` says that the cue is there, and loops go over words alone.
     /// The cell of place 0 of this word of this cue.
     pub(crate) fn word_start(&self, cue: usize, word: usize) -> usize
         requires { (cue < self.now.cues) × (word < self.now.words) }

@@ -41,6 +41,7 @@ pub type Plotting<C> = Store<C, WhilePlotting>;
 pub type Running<C> = Store<C, WhileRunning>;
 
 impl<C: Code + Drop, S> Store<C, S> {
+    // Here and not above: the definition names this struct.
     ghost use Rattle.cues.specs.Stores.{of_store};
 
     /// How many words touching up has changed so far; it stays at 65,535.

@@ -21,6 +21,7 @@ pub(crate) fn tally_with(tally: u16, more: usize) -> u16
     tally.saturating_add(u16::try_from(more).unwrap_or(MOST_TALLY))
 }
 
+// Cue, cells and memory go side by side, as in reading.rt.
 impl<C: Code + Drop, S> Store<C, S> {
     /// Mends one word in its cells; one beyond reach stays.
     fn touch_word(&self, cue: usize, word: usize, cells: &mut [u8], memory: &mut [u8]) -> Touched

@@ -12,6 +12,8 @@ use crate::symbols::write_message;
 use codes::code::Code;
 use codes::memory::{clear, copy_between};
 
+// Cue, cells and memory go side by side, as in reading.rt. How many levels there may be is checked once, in `check_recording`: a
+// slice with that bound would be one more type for three private calls.
 impl<C: Code + Drop, S> Store<C, S> {
     /// Writes one word of these levels into its cells. A fit code refuses none, since every message is one of symbols.
     fn write_word(

@@ -42,6 +42,7 @@ impl Systematic<LENGTH, DIMENSION> for Hamming {
 
     ghost all = { refl };
 
+    // Written out: a few digits are plainer than a loop over their places.
     fn message(index: u8) -> [u8; DIMENSION] {
         [index / 8 % 2, index / 4 % 2, index / 2 % 2, index % 2]
     }
@@ -52,8 +53,8 @@ impl Systematic<LENGTH, DIMENSION> for Hamming {
     }
 }
 
-// What each systematic code answers alike stays one line each: an impl for every type that is systematic would leave a type
-// with an impl of its own two to choose from.
+// One line each: the lengths are parameters of Systematic, so a type could be one at two pairs of lengths, and an impl for all
+// of them could not tell which.
 impl Code for Hamming {
     type Symbols = Two;
 
@@ -96,6 +97,7 @@ impl Code for Hamming {
     }
 }
 
+// A check, a clear and one write: a function for all such pairs would take as many numbers as it has lines.
 impl Showing for Hamming {
     ghost pair = { λ _. (0 ∷ 0 ∷ 0 ∷ 0 ∷ [], 0 ∷ 1 ∷ 0 ∷ 0 ∷ []) };
 
@@ -115,5 +117,6 @@ impl Showing for Hamming {
 fn sum(a: u8, b: u8, c: u8) -> u8
     ensures { result ≡ (a + b + c) % 2 }
 {
+    // By `as`: 0 or 1; `try_from` would have a case that never is.
     ((u16::from(a) + u16::from(b) + u16::from(c)) % 2) as u8
 }

@@ -42,6 +42,7 @@ impl Systematic<LENGTH, DIMENSION> for Hexacode {
 
     ghost all = { refl };
 
+    // Written out: a few digits are plainer than a loop over their places.
     fn message(index: u8) -> [u8; DIMENSION] {
         [index / 16 % 4, index / 4 % 4, index % 4]
     }
@@ -59,8 +60,8 @@ impl Systematic<LENGTH, DIMENSION> for Hexacode {
     }
 }
 
-// What each systematic code answers alike stays one line each: an impl for every type that is systematic would leave a type
-// with an impl of its own two to choose from.
+// One line each: the lengths are parameters of Systematic, so a type could be one at two pairs of lengths, and an impl for all
+// of them could not tell which.
 impl Code for Hexacode {
     type Symbols = Four;
 
@@ -103,6 +104,7 @@ impl Code for Hexacode {
     }
 }
 
+// A check, a clear and one write: a function for all such pairs would take as many numbers as it has lines.
 impl Showing for Hexacode {
     ghost pair = { λ _. (0 ∷ 0 ∷ 0 ∷ [], 1 ∷ 0 ∷ 0 ∷ []) };
 

@@ -114,6 +114,7 @@ impl<S: Alphabet> Code for Parity<S> {
     }
 }
 
+// A check, a clear and one write: a function for all such pairs would take as many numbers as it has lines.
 impl<S: Alphabet> Showing for Parity<S> {
     ghost pair = { λ c. (replicate (c.n - 1) 0, 1 ∷ replicate (c.n - 2) 0) };
 

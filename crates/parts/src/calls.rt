@@ -1,4 +1,4 @@
-// A call in a middle part of lent memory.
+// A call in a middle part of lent memory. The numbers stay apart, as in the definition that the contract cites.
 ghost use Rattle.std.specs.Prelude.{◌≡◌};
 ghost use Rattle.codes.specs.Refusals.{outcome};
 ghost use Rattle.parts.specs.Called.{Computes};

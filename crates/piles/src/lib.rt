@@ -79,20 +79,3 @@ pub fn four_pile() -> Result<FourPile, MakingRefusal>
 {
     Plotkin::new(Parity::new(6)?, Hexacode)
 }
-
-#[cfg(test)]
-mod tests {
-    use crate::{ReedMuller3, reed_muller};
-    use codes::code::Code;
-    use std::test::Fail;
-
-    #[test]
-    fn a_reed_muller_code_is_made_with_its_numbers(rt: HostRuntime) -> Result<(), Fail> {
-        let Ok(code) = reed_muller::<ReedMuller3>() else {
-            return Err(Fail::new("not made"));
-        };
-        assert_eq!(rt; (code.length(), code.dimension()), (8, 4));
-        assert_eq!(rt; (code.distance(), code.working_length()), (4, 29));
-        Ok(())
-    }
-}

@@ -24,6 +24,7 @@ use parts::nearness::are_near;
 use parts::numbers::MOST_WORKING;
 use parts::part::Part;
 use parts::placed::Placed;
+use parts::showing::show_padded;
 
 /// Behind the word of 2n bytes come n bytes for one more half, then U's working memory, then V's.
 #[derive(Drop)]
@@ -62,7 +63,7 @@ impl<U: Code + Drop, V: Code<Symbols = U::Symbols> + Drop> Plotkin<U, V> {
 }
 
 // Each call works out its places in a line for each: a function that answers them would be no plainer, as its contract would
-// have the same lines.
+// have the same lines. Mend and read differ in what they ask of the parts, refuse and gather.
 impl<U: Code + Drop, V: Code<Symbols = U::Symbols> + Drop> Code for Plotkin<U, V> {
     type Symbols = U::Symbols;
 
@@ -174,9 +175,9 @@ impl<U: Showing + Drop, V: Showing + Code<Symbols = U::Symbols> + Drop> Showing 
         let v = self.right.numbers;
         let end = 2 * (3 * u.length + u.working + v.working);
         if 2 * u.distance <= v.distance {
-            self.left.show_padded(memory, 0, v.dimension, end)
+            show_padded(&self.left.code, memory, 0, v.dimension, end)
         } else {
-            self.right.show_padded(memory, u.dimension, 0, end)
+            show_padded(&self.right.code, memory, u.dimension, 0, end)
         }
     }
 }

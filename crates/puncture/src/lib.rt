@@ -52,6 +52,7 @@ impl<C: Code + Drop> Puncture<C> {
     }
 }
 
+// What puncturing and shortening share is in `parts::gaps` and `Part::mend_widened`; the rest is a line for each step.
 impl<C: Code + Drop> Code for Puncture<C> {
     type Symbols = C::Symbols;
 

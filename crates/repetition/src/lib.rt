@@ -106,6 +106,7 @@ impl<S: Alphabet> Code for Repetition<S> {
     }
 }
 
+// A check, a clear and one write: a function for all such pairs would take as many numbers as it has lines.
 impl<S: Alphabet> Showing for Repetition<S> {
     ghost pair = { λ _. (0 ∷ [], 1 ∷ []) };
 
@@ -126,6 +127,7 @@ impl<S: Alphabet> Showing for Repetition<S> {
 fn symbol_in_reach<S: Alphabet>(received: &[u8]) -> Option<u8>
     ensures { TellsSymbol S.Alphabet.symbols.q received.now result }
 {
+    // A loop: tried as `find` over the range, with a closure that calls `copies_damage`, the proof did not close.
     for symbol in 0..S::order() {
         if copies_damage::<S>(symbol, received).toll_below(received.len()) {
             return Some(symbol);

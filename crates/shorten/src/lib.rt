@@ -60,6 +60,7 @@ impl<C: Code + Drop> Shorten<C> {
     }
 }
 
+// What puncturing and shortening share is in `parts::gaps` and `Part::mend_widened`; the rest is a line for each step.
 impl<C: Code + Drop> Code for Shorten<C> {
     type Symbols = C::Symbols;
 

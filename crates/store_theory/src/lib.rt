@@ -8,7 +8,7 @@ ghost use Rattle.store_theory.specs.LevelCases.{level_cases, LevelExamplesHold};
 ghost use Rattle.store_theory.specs.RunCases.{run_cases, RunExamplesHold};
 ghost use Rattle.store_theory.specs.Statements.{BookAndStoreAgree, RecallGivesWhatWasLastRecorded, WrittenLevelsReadBack};
 
-// Two flags: each of the four ways is a cue's.
+// Two flags and no enum: a cue is recorded or empty, and held or free, in each of the four ways.
 /// What a store keeps of one cue.
 #[derive(Clone, Copy)]
 pub struct CueMark {

@@ -17,4 +17,5 @@ pub fn number<T: Drop>(answer: Result<T, StoreRefusal>) -> u8
     }
 }
 
+mod pile_examples;
 mod store_examples;

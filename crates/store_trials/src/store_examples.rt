@@ -11,21 +11,13 @@ mod tests {
 
     /// Two cues of two levels: three words of six cells each, with one filling symbol.
     fn plotting() -> Result<Plotting<Hexacode>, Fail> {
-        let Ok(store) = Plotting::new(Hexacode, 2, 2) else {
-            return Err(Fail::new("not made"));
-        };
-        Ok(store)
+        Ok(Plotting::new(Hexacode, 2, 2)?)
     }
 
     /// One cue of one level over three symbols: six words of three cells each.
     fn threefold() -> Result<Plotting<Repetition<Three>>, Fail> {
-        let Ok(code) = Repetition::new(3) else {
-            return Err(Fail::new("not made"));
-        };
-        let Ok(store) = Plotting::new(code, 1, 1) else {
-            return Err(Fail::new("not made"));
-        };
-        Ok(store)
+        let code = Repetition::new(3)?;
+        Ok(Plotting::new(code, 1, 1)?)
     }
 
     /// Holds the cue and lets it go again; answers the number of a refusal.
@@ -44,9 +36,7 @@ mod tests {
         assert_eq!(rt; number(Plotting::new(Hexacode, 0, 1)), 11);
         assert_eq!(rt; number(Plotting::new(Hexacode, 65, 513)), 11);
         assert_eq!(rt; number(Plotting::new(Hexacode, 1, 513)), 11);
-        let Ok(code) = Repetition::<Two>::new(64) else {
-            return Err(Fail::new("not made"));
-        };
+        let code = Repetition::<Two>::new(64)?;
         assert_eq!(rt; number(Plotting::new(code, 64, 512)), 6);
         let store = plotting()?;
         assert_eq!(rt;
@@ -124,7 +114,12 @@ mod tests {
         let mut levels = [9; 2];
         memory = [170; 4];
         let above = store.recall(0, &cells, &mut levels, &mut memory);
-        assert!(rt; matches_level(above, 0, 0));
+        assert!(rt;
+            matches!(
+                above,
+                Err(StoreRefusal::LevelOutOfRange { cue: 0, level: 0 })
+            )
+        );
         assert_eq!(rt; (levels, memory), ([0, 9], [0, 0, 0, 170]));
         cells[16] = 1;
         cells[17] = 0;
@@ -136,13 +131,6 @@ mod tests {
         );
         assert_eq!(rt; (levels, memory), ([0, 9], [0, 0, 0, 170]));
         Ok(())
-    }
-
-    fn matches_level(answer: Result<(), StoreRefusal>, of: usize, at: usize) -> bool {
-        match answer {
-            Err(StoreRefusal::LevelOutOfRange { cue, level }) => cue == of && level == at,
-            _ => false,
-        }
     }
 
     #[test]
@@ -157,7 +145,12 @@ mod tests {
         cells[17] = 1;
         let mut levels = [9; 2];
         let answer = store.recall(0, &cells, &mut levels, &mut memory);
-        assert!(rt; matches_level(answer, 0, 2));
+        assert!(rt;
+            matches!(
+                answer,
+                Err(StoreRefusal::LevelOutOfRange { cue: 0, level: 2 })
+            )
+        );
         assert_eq!(rt; levels, [0, 0]);
         Ok(())
     }

@@ -104,6 +104,7 @@ fn word_in_reach<C: Systematic<N, K>, const N: usize, const K: usize>(
 ) -> Option<[u8; N]>
     ensures { result ≡ word_in_reach C.Symbols.Alphabet.symbols (meaning_of N K C.DISTANCE C.checks) received.now }
 {
+    // A loop: `find` would give the index, and the word would be made once more.
     for index in 0..C::MESSAGES {
         let word = C::word(&C::message(index));
         if damage_between::<C::Symbols>(&word, received).toll_below(C::DISTANCE) {

@@ -14,15 +14,6 @@ wrong_append q [] ys (r ∷ rs) ss e = absurd (omega arith)
 wrong_append q (x ∷ xs) ys [] ss e = absurd (omega arith)
 wrong_append q (x ∷ xs) ys (r ∷ rs) ss e = omega (arith, wrong_append q xs ys rs ss (omega arith))
 
-pub marked_le : (q : ℕ) (rs : List ℕ) → marked q rs ≤ length rs
-marked_le q [] = omega arith
-marked_le q (r ∷ rs) = let h = marked_le q rs in grind (arith, nat_tests)
-
-pub wrong_le : (q : ℕ) (xs rs : List ℕ) → wrong q xs rs ≤ length rs
-wrong_le q [] rs = omega arith
-wrong_le q (x ∷ xs) [] = omega arith
-wrong_le q (x ∷ xs) (r ∷ rs) = let h = wrong_le q xs rs in grind (arith, nat_tests)
-
 -- no marks: all symbols
 pub symbols_from_unmarked : (q : ℕ) (rs : List ℕ) → marked q rs ≡ 0 → All (λ x. x < q) rs
 symbols_from_unmarked q [] e = tt

@@ -18,11 +18,6 @@ digits_symbols q (suc k) v h =
     let rest = digits_symbols q k v h in
     record { long = ap suc rest.long; each = (mod-lt (v / (q ^ k)) h, rest.each) }
 
--- the first places of a list, one by one
-pub first_places : (k : ℕ) (xs : List ℕ) → k ≤ length xs → map (λ i. get_or xs i 0) (range_with_len 0 k) ≡ take k xs
-first_places k xs h =
-    sym (fill_by_all (λ i. get_or xs i 0) (take k xs) k 0 (length-take-le k xs h) (λ i l. get_or-take k xs i 0 l))
-
 -- damage over the places that both have is the toll of words of one length
 pub toll_from_damage : (q : ℕ) (word rs : List ℕ) → length word ≡ length rs → 2 * wrong q word rs + marked q (take (length word) rs) ≡ toll q word rs
 toll_from_damage q word rs e = ap (λ (ys : List ℕ). 2 * wrong q word rs + marked q ys) (take_all (length word) rs (omega arith))

@@ -84,6 +84,7 @@ impl Systematic<LENGTH, DIMENSION> for Powers {
     }
 }
 
+// As our systematic codes do it.
 impl Code for Powers {
     type Symbols = Five;
 

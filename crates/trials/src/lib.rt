@@ -6,6 +6,7 @@ ghost use Rattle.trials.specs.Answers.{number_of, making_number_of};
 
 use codes::refusals::{MakingRefusal, Refusal};
 
+// By number: so a refusal is known, and the tests hold each call to it.
 /// The number of a refusal, or 0 for an accepted call.
 pub fn number(answer: Result<(), Refusal>) -> u8
     ensures { result ≡ number_of answer }

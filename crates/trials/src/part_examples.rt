@@ -3,9 +3,11 @@
 mod tests {
     use crate::number;
     use alphabets::Three;
+    use codes::code::Code;
     use hamming::Hamming;
     use hexacode::Hexacode;
     use parts::asked::numbers_of;
+    use parts::calls::call_in_part;
     use parts::combining::{combine, subtract};
     use parts::gathering::gather;
     use parts::part::Part;
@@ -13,9 +15,7 @@ mod tests {
 
     #[test]
     fn a_code_works_in_a_middle_part(rt: HostRuntime) -> Result<(), Fail> {
-        let Ok(part) = Part::new(Hexacode) else {
-            return Err(Fail::new("no part"));
-        };
+        let part = Part::new(Hexacode)?;
         let mut memory = [1, 2, 3, 99, 170, 170, 170, 170, 170, 170, 77];
         assert_eq!(rt; number(part.send(&mut memory, 0, 4)), 0);
         assert_eq!(rt; memory, [1, 2, 3, 99, 1, 2, 3, 0, 3, 0, 77]);
@@ -29,9 +29,7 @@ mod tests {
 
     #[test]
     fn a_part_that_is_not_there_is_short_memory(rt: HostRuntime) -> Result<(), Fail> {
-        let Ok(part) = Part::new(Hamming) else {
-            return Err(Fail::new("no part"));
-        };
+        let part = Part::new(Hamming)?;
         let mut memory = [1, 0, 1, 1, 9, 9];
         assert_eq!(rt; number(part.send(&mut memory, 0, 1)), 1);
         assert_eq!(rt; memory, [1, 0, 1, 1, 9, 9]);
@@ -40,9 +38,7 @@ mod tests {
 
     #[test]
     fn a_word_is_mended_with_its_lost_place(rt: HostRuntime) -> Result<(), Fail> {
-        let Ok(part) = Part::new(Hexacode) else {
-            return Err(Fail::new("no part"));
-        };
+        let part = Part::new(Hexacode)?;
         let mut memory = [1, 2, 0, 3, 0, 9, 170, 170, 170, 170, 170, 170, 77];
         assert_eq!(rt; number(part.mend_widened(&mut memory, 2, 255)), 0);
         assert_eq!(rt; memory, [1, 2, 0, 3, 0, 9, 1, 2, 3, 0, 3, 0, 77]);
@@ -75,5 +71,14 @@ mod tests {
         assert_eq!(rt; (numbers.length, numbers.dimension), (7, 4));
         assert_eq!(rt; (numbers.distance, numbers.working), (3, 7));
         Ok(())
+    }
+
+    #[test]
+    fn a_borrowed_code_is_called_in_a_middle_part(rt: HostRuntime) {
+        let code = &Hexacode;
+        let mut memory = [1, 2, 3, 99, 170, 170, 170, 170, 170, 170, 77];
+        let sent = call_in_part(&mut memory, 0, 3, 4, 6, |part| code.send(part));
+        assert_eq!(rt; number(sent), 0);
+        assert_eq!(rt; memory, [1, 2, 3, 99, 1, 2, 3, 0, 3, 0, 77]);
     }
 }

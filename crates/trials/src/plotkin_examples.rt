@@ -87,6 +87,7 @@ mod tests {
         Ok(())
     }
 
+    // Each test names its bytes and its number in full.
     #[test]
     fn it_refuses_two_marks_and_a_wrong_place(rt: HostRuntime) -> Result<(), Fail> {
         let code = four_pile()?;

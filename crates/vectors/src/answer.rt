@@ -21,6 +21,7 @@ impl Answer {
         Answer::of(heap, code, message, |memory| code.send(memory))
     }
 
+    // As `of_send`: each names its call, and the rest is `of`.
     /// Mends a received word.
     pub fn of_mend<C: Code>(heap: Global, code: &C, received: &[u8]) -> Result<Answer, AllocError> {
         Answer::of(heap, code, received, |memory| code.mend(memory))

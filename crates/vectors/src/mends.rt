@@ -12,6 +12,7 @@ use std::io::Write;
 /// In counting, a place is 0, 1 or a mark.
 const PLACE_STATES: u8 = 3;
 
+// A digit: received words are counted, and the digit above the symbols stands for the mark.
 /// The digit that counts as a mark.
 const MARK_DIGIT: u8 = 2;
 
