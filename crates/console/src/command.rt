@@ -39,7 +39,7 @@ pub enum Command {
 impl Command {
     /// What a line asks for: its first word says what words follow.
     pub fn parse(heap: Global, line: &[u8]) -> Result<Command, Fault> {
-        let mut words = Pieces::between(line, b' ');
+        let mut words = Pieces::words(line);
         let first = words.next().ok_or(Reason::UnknownCommand)?;
         Ok(match first {
             b"model" => Command::Choose(Name::try_from(only_word(words)?)?),

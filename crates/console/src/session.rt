@@ -28,7 +28,7 @@ use std::io::Write;
 // each of them.
 /// Carries out a whole script.
 pub fn run_script(rt: &HostRuntime, script: &[u8]) -> io::Result<()> {
-    let mut lines = Pieces::between(script, b'\n');
+    let mut lines = Pieces::lines(script);
     let mut given = 0;
     let mut next = serve(rt, &mut lines, &mut NoModel)?;
     while let Next::Choose(name) = next {

@@ -28,13 +28,27 @@ pub struct Pieces<'a> {
 
 impl<'a> Pieces<'a> {
     /// The pieces of a text between the bytes that are this separator.
-    pub fn between(text: &'a [u8], separator: u8) -> Pieces<'a>
+    fn between(text: &'a [u8], separator: u8) -> Pieces<'a>
         ensures { to_come result ≡ pieces separator text.now }
     {
         Pieces {
             rest: Some(text),
             separator,
         }
+    }
+
+    /// The lines of a script.
+    pub fn lines(script: &'a [u8]) -> Pieces<'a>
+        ensures { to_come result ≡ pieces 10 script.now }
+    {
+        Pieces::between(script, b'\n')
+    }
+
+    /// The words of a line.
+    pub fn words(line: &'a [u8]) -> Pieces<'a>
+        ensures { to_come result ≡ pieces 32 line.now }
+    {
+        Pieces::between(line, b' ')
     }
 
     /// Whether no piece is left.

@@ -1,10 +1,11 @@
 // Two words in memory put together place by place: their sum, or the one less the other. The numbers of `combine` stay apart,
 // as in the definition that its contract cites: in a struct they would be no plainer.
 ghost use Rattle.std.specs.Prelude.{◌≡◌, ℕ, ◌+◌};
-ghost use Rattle.parts.specs.Combining.{PutsTogether};
+ghost use Rattle.parts.specs.Combining.{placewise, PutsTogether};
 ghost use Rattle.theory.specs.Combining.{readable, combinable, combined};
 ghost use Rattle.theory.specs.Halves.{byte_less};
 
+use crate::combination::Combination;
 use alphabets::Alphabet;
 use codes::memory::has_range;
 
@@ -13,6 +14,16 @@ pub fn subtract<S: Alphabet>(x: u8, y: u8) -> u8
     ensures { result ≡ byte_less S.Alphabet.symbols x y }
 {
     S::add(x, S::negate(y))
+}
+
+/// The sum of two bytes, or the one less the other; a mark where either is one.
+pub fn combine_bytes<S: Alphabet>(combination: Combination, x: u8, y: u8) -> u8
+    ensures { result ≡ placewise S.Alphabet.symbols combination x y }
+{
+    match combination {
+        Combination::Sum => S::add(x, y),
+        Combination::Difference => subtract::<S>(x, y),
+    }
 }
 
 /// Whether `count` bytes from `from` on are each read before a write that goes up from `to` reaches them.
@@ -33,9 +44,31 @@ pub fn can_combine(len: usize, left: usize, right: usize, count: usize, to: usiz
         && is_readable(right, count, to)
 }
 
-/// Puts the `count` bytes from `left` on and those from `right` on together by `put`, and writes them from `to` on;
-/// changes nothing where that cannot be.
-pub fn combine<F: Fn(u8, u8) -> u8>(
+/// Puts the `count` bytes from `left` on and those from `right` on together, and writes them from `to` on; changes
+/// nothing where that cannot be.
+pub fn combine<S: Alphabet>(
+    memory: &mut [u8],
+    combination: Combination,
+    left: usize,
+    right: usize,
+    count: usize,
+    to: usize,
+)
+    ensures { memory.new ≡ combined (placewise S.Alphabet.symbols combination) memory.old left right count to }
+{
+    combine_by(
+        memory,
+        left,
+        right,
+        count,
+        to,
+        |x, y| combine_bytes::<S>(combination, x, y),
+    );
+}
+
+// For this crate alone: a call of a closure asks that it may be called, and no public function asks anything.
+/// The same by `put`.
+fn combine_by<F: Fn(u8, u8) -> u8>(
     memory: &mut [u8],
     left: usize,
     right: usize,

@@ -4,6 +4,7 @@
 
 pub mod asked;
 pub mod calls;
+pub mod combination;
 pub mod combining;
 pub mod gaps;
 pub mod gathering;

@@ -7,7 +7,7 @@ ghost use Rattle.theory.specs.Gaps.{widened};
 ghost use Rattle.theory.specs.Parts.{call_in_part};
 
 use crate::asked::numbers_of;
-use crate::calls::call_in_part;
+use crate::calls::{mend_part, read_part, send_part};
 use crate::gaps::widen;
 use crate::numbers::Numbers;
 use codes::code::Code;
@@ -34,21 +34,13 @@ impl<C: Code + Drop> Part<C> {
     }
 }
 
-// Send, mend and read are the three ways to call `call_in_part`: each names the bytes that it is given and the call.
 impl<C: Code> Part<C> {
     /// Sends the message at `from` in the part at `at`.
     pub fn send(&self, memory: &mut [u8], from: usize, at: usize) -> Result<(), Refusal>
         ensures { C.Code.fit self.now.code → (outcome result, memory.new) ≡ call_in_part (sent C.Symbols.Alphabet.symbols (C.Code.meaning self.now.code)) from self.now.numbers.dimension at self.now.numbers.working memory.old }
     {
         let own = self.numbers;
-        call_in_part(
-            memory,
-            from,
-            own.dimension,
-            at,
-            own.working,
-            |part| self.code.send(part),
-        )
+        send_part(&self.code, memory, from, own.dimension, at, own.working)
     }
 
     /// Mends the received word at `from` in the part at `at`.
@@ -56,14 +48,7 @@ impl<C: Code> Part<C> {
         ensures { C.Code.fit self.now.code → (outcome result, memory.new) ≡ call_in_part (mended C.Symbols.Alphabet.symbols (C.Code.meaning self.now.code)) from self.now.numbers.length at self.now.numbers.working memory.old }
     {
         let own = self.numbers;
-        call_in_part(
-            memory,
-            from,
-            own.length,
-            at,
-            own.working,
-            |part| self.code.mend(part),
-        )
+        mend_part(&self.code, memory, from, own.length, at, own.working)
     }
 
     /// Reads the word at `from` in the part at `at`.
@@ -71,14 +56,7 @@ impl<C: Code> Part<C> {
         ensures { C.Code.fit self.now.code → (outcome result, memory.new) ≡ call_in_part (read_back C.Symbols.Alphabet.symbols (C.Code.meaning self.now.code)) from self.now.numbers.length at self.now.numbers.working memory.old }
     {
         let own = self.numbers;
-        call_in_part(
-            memory,
-            from,
-            own.length,
-            at,
-            own.working,
-            |part| self.code.read(part),
-        )
+        read_part(&self.code, memory, from, own.length, at, own.working)
     }
 
     /// Writes the word in front, with `value` put in at the place that it has lost, behind the first n bytes, n being the

@@ -7,6 +7,7 @@ ghost use Rattle.piles.specs.Named.{HasNumbers};
 ghost use Rattle.theory.specs.Alphabets.{two, four};
 ghost use Rattle.theory.specs.NamedPiles.{reed_muller, four_pile};
 ghost use Rattle.theory.specs.Piles.{making_of};
+ghost use Rattle.theory.specs.Repetition.{repetition_making};
 
 use alphabets::{Four, Two};
 use codes::code::Code;
@@ -39,9 +40,18 @@ impl<C: ReedMuller> ReedMuller for Plotkin<C, Repetition<Two>> {
 
     fn make() -> Result<Plotkin<C, Repetition<Two>>, MakingRefusal> {
         let left = C::make()?;
-        let length = left.length();
-        Plotkin::new(left, Repetition::new(length)?)
+        let right = repetition_beside(&left)?;
+        Plotkin::new(left, right)
     }
+}
+
+// A function of its own, so that what is made is said by the code's length, whichever way that is passed on.
+/// The repetition whose words are as long as this code's.
+fn repetition_beside<C: Code>(code: &C) -> Result<Repetition<Two>, MakingRefusal>
+    ensures { C.Code.fit code.now → making ⟦<Repetition<Two> as Code>⟧.meaning result ≡ repetition_making (C.Code.meaning code.now).n }
+{
+    let length = code.length();
+    Repetition::new(length)
 }
 
 /// RM(1,m): length 2 ^ m, dimension m + 1, distance 2 ^ (m - 1), working length 4 * 2 ^ m - 3.

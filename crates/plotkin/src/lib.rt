@@ -18,7 +18,8 @@ use codes::code::{Code, Showing};
 use codes::memory::clear;
 use codes::refusals::{MakingRefusal, Refusal};
 use codes::tolls::first_mark;
-use parts::combining::{combine, subtract};
+use parts::combination::Combination;
+use parts::combining::combine;
 use parts::gathering::gather;
 use parts::nearness::are_near;
 use parts::numbers::MOST_WORKING;
@@ -113,7 +114,7 @@ impl<U: Code + Drop, V: Code<Symbols = U::Symbols> + Drop> Code for Plotkin<U, V
         // V first: U's working memory may lie over V's message.
         self.right.send(memory, u.dimension, right)?;
         self.left.send(memory, 0, left)?;
-        combine(memory, left, right, n, 2 * n, |x, y| U::Symbols::add(x, y));
+        combine::<U::Symbols>(memory, Combination::Sum, left, right, n, 2 * n);
         gather(memory, left, n, 2 * n, n, end);
         Ok(())
     }
@@ -128,7 +129,7 @@ impl<U: Code + Drop, V: Code<Symbols = U::Symbols> + Drop> Code for Plotkin<U, V
         if memory.len() < end {
             return Err(Refusal::ShortMemory);
         }
-        combine(memory, n, 0, n, 2 * n, |x, y| subtract::<U::Symbols>(x, y));
+        combine::<U::Symbols>(memory, Combination::Difference, n, 0, n, 2 * n);
         let of_right = self.right.mend(memory, 2 * n, right);
         if of_right.is_err() || !self.finds_left(memory) {
             clear(memory, 2 * n, end - 2 * n);
@@ -148,7 +149,7 @@ impl<U: Code + Drop, V: Code<Symbols = U::Symbols> + Drop> Code for Plotkin<U, V
         if memory.len() < end {
             return Err(Refusal::ShortMemory);
         }
-        combine(memory, n, 0, n, 2 * n, |x, y| subtract::<U::Symbols>(x, y));
+        combine::<U::Symbols>(memory, Combination::Difference, n, 0, n, 2 * n);
         let of_right = self.right.read(memory, 2 * n, right);
         let of_left = self.left.read(memory, 0, left);
         if of_right.is_err() || of_left.is_err() {
@@ -193,7 +194,7 @@ impl<U: Code + Drop, V: Code<Symbols = U::Symbols> + Drop> Plotkin<U, V> {
         if self.fits_whole(memory, 0) {
             return true;
         }
-        combine(memory, n, v, n, 2 * n, |x, y| subtract::<U::Symbols>(x, y));
+        combine::<U::Symbols>(memory, Combination::Difference, n, v, n, 2 * n);
         self.fits_whole(memory, 2 * n)
     }
 
@@ -209,7 +210,7 @@ impl<U: Code + Drop, V: Code<Symbols = U::Symbols> + Drop> Plotkin<U, V> {
         if self.left.mend(memory, from, left).is_err() {
             return false;
         }
-        combine(memory, left, v, n, 2 * n, |x, y| U::Symbols::add(x, y));
+        combine::<U::Symbols>(memory, Combination::Sum, left, v, n, 2 * n);
         let of_left = Placed {
             word: left,
             received: 0,

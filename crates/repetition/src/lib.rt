@@ -1,7 +1,7 @@
 // The repetition code over any alphabet: the word is n copies of the one symbol of the message, n from 1 to 64.
 #![tactic(auto)]
 
-ghost use Rattle.std.specs.Prelude.{◌≡◌, ℕ, ◌≤◌, ◌&&◌, ◌==◌, List, [], ◌∷◌, length, replicate, count_by, nat_lt, not};
+ghost use Rattle.std.specs.Prelude.{◌≡◌, ℕ, ◌≤◌, List, [], ◌∷◌, length, replicate};
 ghost use Rattle.codes.specs.Refusals.{outcome, making};
 ghost use Rattle.theory.specs.Pairs.{AtDistance};
 ghost use Rattle.theory.specs.Calls.{sent, mended, read_back, shown};
@@ -14,7 +14,7 @@ use alphabets::Alphabet;
 use codes::code::{Code, Showing};
 use codes::memory::clear;
 use codes::refusals::{MakingRefusal, Refusal};
-use codes::tolls::{Damage, count_marks};
+use codes::tolls::Damage;
 use std::marker::PhantomData;
 
 #[derive(Drop)]
@@ -137,23 +137,19 @@ fn symbol_in_reach<S: Alphabet>(received: &[u8]) -> Option<u8>
 }
 
 /// The damage between copies of a symbol and what was received.
-#[tactic(auto, using(crate::proofs::Counts::wrong_copies))]
 fn copies_damage<S: Alphabet>(symbol: u8, received: &[u8]) -> Damage
     ensures errors { result.wrong ≡ wrong S.Alphabet.symbols.q (replicate (length received.now) symbol) received.now }
     ensures erasures { result.marked ≡ marked S.Alphabet.symbols.q received.now }
 {
-    Damage {
-        wrong: count_others(symbol, received, S::order()),
-        marked: count_marks::<S>(received),
+    // One pass, as `damage_between`: with a chain each for both counts it took twice the time.
+    let mut wrong = 0;
+    let mut marked = 0;
+    for x in received {
+        if *x >= S::order() {
+            marked += 1;
+        } else if *x != symbol {
+            wrong += 1;
+        }
     }
-}
-
-/// How many of the bytes below `order` are not this symbol.
-fn count_others(symbol: u8, bytes: &[u8], order: u8) -> usize
-    ensures { result ≡ count_by (λ x. nat_lt x order && not (x == symbol)) bytes.now }
-{
-    bytes
-        .iter()
-        .filter(|x| **x < order && **x != symbol)
-        .count()
+    Damage { wrong, marked }
 }

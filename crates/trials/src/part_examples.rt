@@ -3,12 +3,12 @@
 mod tests {
     use crate::number;
     use alphabets::Three;
-    use codes::code::Code;
     use hamming::Hamming;
     use hexacode::Hexacode;
     use parts::asked::numbers_of;
-    use parts::calls::call_in_part;
-    use parts::combining::{combine, subtract};
+    use parts::calls::send_part;
+    use parts::combination::Combination;
+    use parts::combining::combine;
     use parts::gathering::gather;
     use parts::part::Part;
     use std::test::Fail;
@@ -48,9 +48,9 @@ mod tests {
     #[test]
     fn a_word_is_taken_from_another(rt: HostRuntime) {
         let mut memory = [1, 2, 0, 2, 2, 255, 9, 77];
-        combine(&mut memory, 0, 3, 3, 0, |x, y| subtract::<Three>(x, y));
+        combine::<Three>(&mut memory, Combination::Difference, 0, 3, 3, 0);
         assert_eq!(rt; memory, [2, 0, 255, 2, 2, 255, 9, 77]);
-        combine(&mut memory, 0, 3, 6, 0, |x, y| subtract::<Three>(x, y));
+        combine::<Three>(&mut memory, Combination::Difference, 0, 3, 6, 0);
         assert_eq!(rt; memory, [2, 0, 255, 2, 2, 255, 9, 77]);
     }
 
@@ -77,7 +77,7 @@ mod tests {
     fn a_borrowed_code_is_called_in_a_middle_part(rt: HostRuntime) {
         let code = &Hexacode;
         let mut memory = [1, 2, 3, 99, 170, 170, 170, 170, 170, 170, 77];
-        let sent = call_in_part(&mut memory, 0, 3, 4, 6, |part| code.send(part));
+        let sent = send_part(code, &mut memory, 0, 3, 4, 6);
         assert_eq!(rt; number(sent), 0);
         assert_eq!(rt; memory, [1, 2, 3, 99, 1, 2, 3, 0, 3, 0, 77]);
     }

@@ -1,6 +1,5 @@
-use Rattle.std.proofs.Common.{rules, Bool, sym, ap, ◌∙◌}
+use Rattle.std.proofs.Common.{Bool, sym, ap, ◌∙◌}
 use Rattle.plotkin.specs.Kept.{kept}
-use Rattle.theory.specs.Halves.{byte_less}
 use Rattle.theory.proofs.Halves.{sought_first, sought_second}
 use Rattle.theory.proofs.Seeking.{answered}
 use Rattle.plotkin.proofs.Plotkin.finds_left.Goals as goal
@@ -13,4 +12,4 @@ returns-then-fits_whole g c fit =
 pub returns : goal.returns
 returns g c fit =
     let self = c.args.self.now in
-    sought_second g.U.Symbols.Alphabet.symbols (g.U.Code.meaning self.left.code) (kept self.left.numbers self.right.numbers) _ _ (ap (λ (b : Bool). answered b c.fits_whole.new.memory) (sym c.if-fits_whole.false) ∙ c.fits_whole.ensures fit) _ (c.combine.ensures (byte_less g.U.Symbols.Alphabet.symbols) (search rules)) _ _ (c.fits_whole-2.ensures fit)
+    sought_second g.U.Symbols.Alphabet.symbols (g.U.Code.meaning self.left.code) (kept self.left.numbers self.right.numbers) _ _ (ap (λ (b : Bool). answered b c.fits_whole.new.memory) (sym c.if-fits_whole.false) ∙ c.fits_whole.ensures fit) _ c.combine.ensures _ _ (c.fits_whole-2.ensures fit)

@@ -1,7 +1,6 @@
-use Rattle.std.proofs.Common.{rules, ℕ, ◌+◌, ◌-◌, ◌*◌, Bool, List, [], sym, ap, ◌∙◌, arith}
+use Rattle.std.proofs.Common.{ℕ, ◌+◌, ◌-◌, ◌*◌, Bool, List, [], sym, ap, ◌∙◌, arith}
 use Rattle.parts.proofs.Outcomes.{err_refuses, ok_accepts}
 use Rattle.theory.specs.Calls.{accepted, refused}
-use Rattle.theory.specs.Halves.{byte_less}
 use Rattle.theory.specs.Joins.{plotkin}
 use Rattle.theory.specs.Memory.{cleared}
 use Rattle.theory.proofs.Calls.{paired, mended_short}
@@ -22,7 +21,7 @@ returns-then-is_err g c fit =
     let self = c.args.self.now in
     let of-u = self.left.asked fit.0 in
     let of-v = self.right.asked fit.1 in
-    let ways = mends g.met.U.Symbols.Alphabet.lawful (g.met.U.Code.keeps self.left.code fit.0) (g.met.V.Code.keeps self.right.code fit.1) of-u of-v self.level self.bounded c.args.memory.now c.if-memory-end.false _ (c.combine.ensures (byte_less g.U.Symbols.Alphabet.symbols) (search rules)) _ _ (rw (← c.args.self.now.level) at (c.mend-of_right.ensures fit.1)) in
+    let ways = mends g.met.U.Symbols.Alphabet.lawful (g.met.U.Code.keeps self.left.code fit.0) (g.met.V.Code.keeps self.right.code fit.1) of-u of-v self.level self.bounded c.args.memory.now c.if-memory-end.false _ c.combine.ensures _ _ (rw (← c.args.self.now.level) at (c.mend-of_right.ensures fit.1)) in
     let n = self.left.numbers.length in
     let after = λ (z : List ℕ). paired (refused 3 []) (cleared z (2 * n) (3 * n + self.left.numbers.working + self.right.numbers.working - 2 * n)) in
     ap (paired (refused 3 [])) c.clear.ensures
@@ -38,6 +37,6 @@ returns g c fit =
     let self = c.args.self.now in
     let of-u = self.left.asked fit.0 in
     let of-v = self.right.asked fit.1 in
-    let ways = mends g.met.U.Symbols.Alphabet.lawful (g.met.U.Code.keeps self.left.code fit.0) (g.met.V.Code.keeps self.right.code fit.1) of-u of-v self.level self.bounded c.args.memory.now c.if-memory-end.false _ (c.combine.ensures (byte_less g.U.Symbols.Alphabet.symbols) (search rules)) _ _ (rw (← c.args.self.now.level) at (c.mend-of_right.ensures fit.1)) in
+    let ways = mends g.met.U.Symbols.Alphabet.lawful (g.met.U.Code.keeps self.left.code fit.0) (g.met.V.Code.keeps self.right.code fit.1) of-u of-v self.level self.bounded c.args.memory.now c.if-memory-end.false _ c.combine.ensures _ _ (rw (← c.args.self.now.level) at (c.mend-of_right.ensures fit.1)) in
     ap (paired accepted) c.gather.ensures
     ∙ ways.found (ok_accepts _ (sym c.is_err.ensures.value ∙ c.if-is_err.false)) c.finds_left.new.memory (ap (λ (b : Bool). answered b c.finds_left.new.memory) (sym c.if-not-finds_left.false) ∙ c.finds_left.ensures fit.0)

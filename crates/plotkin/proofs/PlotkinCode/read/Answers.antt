@@ -1,7 +1,6 @@
-use Rattle.std.proofs.Common.{rules, [], sym, ap, ◌∙◌, arith}
+use Rattle.std.proofs.Common.{[], sym, ap, ◌∙◌, arith}
 use Rattle.parts.proofs.Outcomes.{err_refuses, ok_accepts}
 use Rattle.theory.specs.Calls.{accepted, refused}
-use Rattle.theory.specs.Halves.{byte_less}
 use Rattle.theory.specs.Joins.{plotkin}
 use Rattle.theory.proofs.Calls.{paired, read_short}
 use Rattle.plotkin.proofs.Ways.{reads}
@@ -20,7 +19,7 @@ returns-then-is_err g c fit =
     let self = c.args.self.now in
     let of-u = self.left.asked fit.0 in
     let of-v = self.right.asked fit.1 in
-    let ways = reads g.met.U.Symbols.Alphabet.lawful (g.met.U.Code.keeps self.left.code fit.0) (g.met.V.Code.keeps self.right.code fit.1) of-u of-v self.level self.bounded c.args.memory.now c.if-memory-end.false _ (c.combine.ensures (byte_less g.U.Symbols.Alphabet.symbols) (search rules)) _ _ _ _ (rw (← c.args.self.now.level) at (c.read-of_right.ensures fit.1)) (c.read-of_left.ensures fit.0) in
+    let ways = reads g.met.U.Symbols.Alphabet.lawful (g.met.U.Code.keeps self.left.code fit.0) (g.met.V.Code.keeps self.right.code fit.1) of-u of-v self.level self.bounded c.args.memory.now c.if-memory-end.false _ c.combine.ensures _ _ _ _ (rw (← c.args.self.now.level) at (c.read-of_right.ensures fit.1)) (c.read-of_left.ensures fit.0) in
     ap (paired (refused 4 [])) c.clear.ensures
     ∙ elim c.then-is_err.branch [
       | then-is_err-via-then-is_err w ↦ ways.no_v (err_refuses _ (sym c.is_err.ensures.value ∙ w.if-is_err.true))
@@ -32,6 +31,6 @@ returns g c fit =
     let self = c.args.self.now in
     let of-u = self.left.asked fit.0 in
     let of-v = self.right.asked fit.1 in
-    let ways = reads g.met.U.Symbols.Alphabet.lawful (g.met.U.Code.keeps self.left.code fit.0) (g.met.V.Code.keeps self.right.code fit.1) of-u of-v self.level self.bounded c.args.memory.now c.if-memory-end.false _ (c.combine.ensures (byte_less g.U.Symbols.Alphabet.symbols) (search rules)) _ _ _ _ (rw (← c.args.self.now.level) at (c.read-of_right.ensures fit.1)) (c.read-of_left.ensures fit.0) in
+    let ways = reads g.met.U.Symbols.Alphabet.lawful (g.met.U.Code.keeps self.left.code fit.0) (g.met.V.Code.keeps self.right.code fit.1) of-u of-v self.level self.bounded c.args.memory.now c.if-memory-end.false _ c.combine.ensures _ _ _ _ (rw (← c.args.self.now.level) at (c.read-of_right.ensures fit.1)) (c.read-of_left.ensures fit.0) in
     ap (paired accepted) c.gather.ensures
     ∙ ways.both (ok_accepts _ (sym c.is_err.ensures.value ∙ c.if-is_err.false)) (ok_accepts _ (sym c.is_err-else-is_err.ensures.value ∙ c.if-is_err-2.false))

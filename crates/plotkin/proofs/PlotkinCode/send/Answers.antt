@@ -1,6 +1,5 @@
-use Rattle.std.proofs.Common.{rules, ℕ, ◌+◌, [], take, sym, refl, ap, ◌∙◌, ap₂, arith}
+use Rattle.std.proofs.Common.{ℕ, ◌+◌, [], take, sym, refl, ap, ◌∙◌, ap₂, arith}
 use Rattle.parts.proofs.Outcomes.{err_is_refused}
-use Rattle.theory.specs.Alphabets.{plus}
 use Rattle.theory.specs.Calls.{accepted, first_mark}
 use Rattle.theory.specs.Joins.{plotkin}
 use Rattle.theory.proofs.Calls.{paired, sent_short, sent_by_lem}
@@ -49,4 +48,4 @@ returns g c fit =
     let of-v = self.right.asked fit.1 in
     let none = sym (ap (first_mark g.U.Symbols.Alphabet.symbols.q) (front_is (self.left.numbers.dimension + self.right.numbers.dimension) c.args.memory.now)) ∙ sym c.in_default.ensures in
     let way = sends g.met.U.Symbols.Alphabet.lawful (g.met.U.Code.keeps self.left.code fit.0) (g.met.V.Code.keeps self.right.code fit.1) of-u of-v self.level c.args.memory.now c.if-memory-end.false none _ _ _ _ c.combine.new.memory (c.send.ensures fit.1) (c.send-2.ensures fit.0) in
-    ap (paired accepted) c.gather.ensures ∙ way.2 (c.combine.ensures (plus g.U.Symbols.Alphabet.symbols) (search rules))
+    ap (paired accepted) c.gather.ensures ∙ way.2 c.combine.ensures

@@ -2,7 +2,7 @@ use Rattle.std.proofs.Common.{rules, ◌+◌, set, sym, ap, ◌∙◌}
 use Rattle.theory.specs.Joins.{zipped}
 use Rattle.theory.specs.Memory.{part}
 use Rattle.theory.proofs.Combining.{combined_not, over_none, combine_step, combine_all}
-use Rattle.parts.proofs.combining.combine.Goals as goal
+use Rattle.parts.proofs.combining.combine_by.Goals as goal
 
 pub returns-then-not-can_combine : goal.returns-then-not-can_combine
 returns-then-not-can_combine g c by puts =

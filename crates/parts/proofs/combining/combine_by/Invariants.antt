@@ -2,7 +2,7 @@ use Rattle.std.proofs.Common.{◌≡◌, ℕ, take}
 use Rattle.parts.specs.Combining.{PutsTogether}
 use Rattle.theory.specs.Joins.{zipped}
 use Rattle.theory.specs.Memory.{over, part}
-use Rattle.parts.proofs.combining.combine.Given as goal
+use Rattle.parts.proofs.combining.combine_by.Given as goal
 
 abbrev pub invariant-loop-i : goal.invariant-loop-i
 invariant-loop-i g l =
