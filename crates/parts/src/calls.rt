@@ -1,5 +1,5 @@
-// Calls of a code in a middle part of lent memory: what a join lends to the codes below it. The numbers stay apart, as in the
-// definition that the contracts cite.
+// Calls in a middle part of lent memory: what a join lends to the codes below it. The numbers stay apart, as in the definition
+// that the contracts cite.
 ghost use Rattle.std.specs.Prelude.{◌≡◌};
 ghost use Rattle.codes.specs.Refusals.{outcome};
 ghost use Rattle.parts.specs.Called.{Computes};
@@ -52,9 +52,10 @@ pub fn read_part<C: Code>(
     call_in_part(memory, from, count, at, working, |part| code.read(part))
 }
 
-// For this crate alone: a call of a closure asks that it may be called, and no public function asks anything.
+// For callers with a call of their own: a call of a closure asks that it may be called. For a code's call the three above say the
+// same and ask nothing.
 /// Moves `count` bytes from `from` on to the part of `working` bytes at `at`, and calls `f` there.
-fn call_in_part<F: FnOnce(&mut [u8]) -> Result<(), Refusal>>(
+pub fn call_in_part<F: FnOnce(&mut [u8]) -> Result<(), Refusal>>(
     memory: &mut [u8],
     from: usize,
     count: usize,

@@ -66,7 +66,7 @@ pub fn combine<S: Alphabet>(
     );
 }
 
-// For this crate alone: a call of a closure asks that it may be called, and no public function asks anything.
+// For this crate alone: a call of a closure asks that it may be called, and `combine` asks nothing.
 /// The same by `put`.
 fn combine_by<F: Fn(u8, u8) -> u8>(
     memory: &mut [u8],

@@ -3,10 +3,12 @@
 mod tests {
     use crate::number;
     use alphabets::Three;
+    use codes::code::Code;
+    use codes::refusals::Refusal;
     use hamming::Hamming;
     use hexacode::Hexacode;
     use parts::asked::numbers_of;
-    use parts::calls::send_part;
+    use parts::calls::{call_in_part, send_part};
     use parts::combination::Combination;
     use parts::combining::combine;
     use parts::gathering::gather;
@@ -80,5 +82,24 @@ mod tests {
         let sent = send_part(code, &mut memory, 0, 3, 4, 6);
         assert_eq!(rt; number(sent), 0);
         assert_eq!(rt; memory, [1, 2, 3, 99, 1, 2, 3, 0, 3, 0, 77]);
+    }
+
+    #[test]
+    fn a_closure_is_called_in_a_middle_part(rt: HostRuntime) {
+        let code = &Hexacode;
+        let mut memory = [1, 2, 3, 99, 170, 170, 170, 170, 170, 170, 77];
+        let sent = call_in_part(&mut memory, 0, 3, 4, 6, |part| code.send(part));
+        assert_eq!(rt; number(sent), 0);
+        assert_eq!(rt; memory, [1, 2, 3, 99, 1, 2, 3, 0, 3, 0, 77]);
+        let turn = |part: &mut [u8]| {
+            part.reverse();
+            Err(Refusal::NotAWord)
+        };
+        let refused = call_in_part(&mut memory, 4, 1, 8, 3, turn);
+        assert_eq!(rt; number(refused), 4);
+        assert_eq!(rt; memory, [1, 2, 3, 99, 1, 2, 3, 0, 77, 0, 1]);
+        let short = call_in_part(&mut memory, 4, 1, 8, 4, |_part| Ok(()));
+        assert_eq!(rt; number(short), 1);
+        assert_eq!(rt; memory, [1, 2, 3, 99, 1, 2, 3, 0, 77, 0, 1]);
     }
 }
